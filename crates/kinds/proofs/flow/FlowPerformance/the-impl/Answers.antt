@@ -1,0 +1,21 @@
+use native.Mathlib.Omega.{arith}
+use Rattle.kinds.specs.Capped.{top32}
+use Rattle.kinds.proofs.Caps.{sum-assoc, sum-comm}
+use Rattle.kinds.proofs.Numeric.{numeric-equal}
+use Rattle.kinds.proofs.Same.{flow-same}
+use Rattle.kinds.proofs.flow.FlowPerformance.the-impl.Needs as need
+
+pub same-identical-law : need.same-identical-law
+same-identical-law a b h = flow-same a b (numeric-equal (a .rate) (b .rate) h)
+
+pub series-associative-law : need.series-associative-law
+series-associative-law a b c = flow-same _ _ (omega arith)
+
+pub parallel-associative-law : need.parallel-associative-law
+parallel-associative-law a b c = flow-same _ _ (sum-assoc top32 (a .rate) (b .rate) (c .rate))
+
+pub series-commutative-law : need.series-commutative-law
+series-commutative-law e a b = flow-same _ _ (omega arith)
+
+pub parallel-commutative-law : need.parallel-commutative-law
+parallel-commutative-law e a b = flow-same _ _ (sum-comm top32 (a .rate) (b .rate))

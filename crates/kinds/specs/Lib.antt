@@ -1,0 +1,14 @@
+pub mod Capped
+pub mod CapLaws
+pub mod Holding
+pub mod Orders
+pub mod Flows
+pub mod Delays
+pub mod FaultSets
+pub mod FirstFaults
+pub mod Pairs
+pub mod Outs
+pub mod Parts
+pub mod Scenarios
+pub mod Efforts
+pub mod Members
