@@ -1,0 +1,50 @@
+-- The combinations of two lists of terms, and of the five arms of a bridge.
+use mathlib.Core.List.{List, [], _∷_, _++_}
+use mathlib.Core.Bool.{Bool}
+use Rattle.kinds.specs.declared.performance.Performance
+use Rattle.kinds.specs.declared.weight.Weight
+use Rattle.terms.specs.declared.term.Term.{Term}
+use Rattle.terms.specs.declared.term.Way.{Way}
+use Rattle.terms.specs.declared.term.Way.the-variants.{Series, Parallel}
+
+-- what f gives for each x of the list, one after the other
+abbrev pub each : {A B : Type 0} → List A → (A → List B) → List B
+each [] f = []
+each (x ∷ xs) f = f x ++ each xs f
+
+module _ {P : Type 0} (kind : Performance.Ghosts P) where
+  -- what joins two performances, and whether their order counts
+  abbrev pub joins : Way → P → P → P
+  joins Series = kind .series
+  joins Parallel = kind .parallel
+
+  abbrev pub ordered : Way → Bool
+  ordered Series = kind .seriesOrdered
+  ordered Parallel = kind .parallelOrdered
+
+module _ {P W : Type 0} (weights : Weight.Ghosts W) where
+  abbrev pub term : P → W → Term P W
+  term p w = record { performance = p; weight = w }
+
+  -- one term of each of two lists, together
+  abbrev pub combined : (P → P → P) → Term P W → Term P W → Term P W
+  combined op x y = term (op (x .performance) (y .performance)) (weights .product (x .weight) (y .weight))
+
+  -- all the combinations of two lists
+  abbrev pub combinations : (P → P → P) → List (Term P W) → List (Term P W) → List (Term P W)
+  combinations op xs ys = each xs λ x. each ys λ y. combined op x y ∷ []
+
+module _ {P W : Type 0} (kind : Performance.Ghosts P) (weights : Weight.Ghosts W) where
+  infixl 60 _⊗_
+
+  abbrev _⊗_ : W → W → W
+  v ⊗ w = weights .product v w
+
+  -- all the combinations of five arms
+  abbrev pub bridges : List (Term P W) → List (Term P W) → List (Term P W) → List (Term P W) → List (Term P W) → List (Term P W)
+  bridges qs bs cs ds es =
+      each qs λ a. each bs λ b. each cs λ c. each ds λ d. each es λ e.
+      term weights
+        (kind .bridge (a .performance) (b .performance) (c .performance) (d .performance) (e .performance))
+        (a .weight ⊗ b .weight ⊗ c .weight ⊗ d .weight ⊗ e .weight)
+      ∷ []

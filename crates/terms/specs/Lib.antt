@@ -1,0 +1,5 @@
+pub mod Rows
+pub mod Merging
+pub mod Combinations
+pub mod Sums
+pub mod Laws
