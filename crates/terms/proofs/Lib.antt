@@ -4,3 +4,7 @@ pub mod Canonical
 pub mod Passing
 pub mod Placing
 pub mod Looping
+pub mod Voiding
+pub mod Ways
+pub mod Combining
+pub mod Answering

@@ -9,11 +9,11 @@ use Rattle.std.specs.declared.option.Option.the-variants.{None}
 use Rattle.kinds.specs.declared.performance.Performance
 use Rattle.kinds.specs.declared.weight.Weight
 use Rattle.terms.specs.declared.term.Term.{Term}
-use Rattle.terms.specs.Rows.{share, weightAt, SameDistribution, RowOf}
+use Rattle.terms.specs.Rows.{sumOver, share, weightAt, SameDistribution, RowOf}
 use Rattle.terms.specs.Merging.{Merges}
 use Rattle.terms.specs.Combinations.{each}
 use Rattle.terms.proofs.Lawful.{Kind, Weighing}
-use Rattle.terms.proofs.Summing.{sum-append}
+use Rattle.terms.proofs.Summing.{sum-append, sum-one}
 use Rattle.terms.proofs.Canonical.{canon, canon-row, canon-longer, row-unique}
 
 pub each-append : {A B : Type 0} (xs ys : List A) (f : A → List B) → each (xs ++ ys) f ≡ each xs f ++ each ys f
@@ -92,3 +92,10 @@ module _ {P W : Type 0} {kind : Performance.Ghosts P} {weights : Weight.Ghosts W
   -- the loop is over
   pub each-all : {X : Type 0} (xs : List X) (f : X → List T) (r₀ s : List T) (i : ℕ) → length xs ≤ i → RowOf kind weights (each (take i xs) f ++ r₀) s → RowOf kind weights (each xs f ++ r₀) s
   each-all xs f r₀ s i over h = subst (λ z. RowOf kind weights (each z f ++ r₀) s) (take-all i xs over) h
+
+-- one term more in a running sum
+pub sum-more : {P W : Type 0} {weights : Weight.Ghosts W} (w : Weighing weights) (gives : Term P W → W) (ts : List (Term P W)) (i : ℕ) (t : Term P W) → i < length ts → t ≡ getD ts i t → sumOver weights gives (take (i + 1) ts) ≡ weights .sum (sumOver weights gives (take i ts)) (gives t)
+sum-more {weights = weights} w gives ts i t in-list read =
+    ap (sumOver weights gives) (take-more ts i t in-list ∙ ap (λ z. take i ts ++ z ∷ []) (sym read))
+    ∙ sum-append w gives (take i ts) (t ∷ [])
+    ∙ ap (λ z. weights .sum (sumOver weights gives (take i ts)) z) (sum-one w gives t)

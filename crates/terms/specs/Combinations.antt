@@ -40,7 +40,7 @@ module _ {P W : Type 0} (kind : Performance.Ghosts P) (weights : Weight.Ghosts W
   abbrev _⊗_ : W → W → W
   v ⊗ w = weights .product v w
 
-  -- all the combinations of five arms
+  -- all the combinations of the five arms of a bridge
   abbrev pub bridges : List (Term P W) → List (Term P W) → List (Term P W) → List (Term P W) → List (Term P W) → List (Term P W)
   bridges qs bs cs ds es =
       each qs λ a. each bs λ b. each cs λ c. each ds λ d. each es λ e.

@@ -6,12 +6,15 @@ use Rattle.kinds.specs.declared.weight.Weight
 use Rattle.terms.specs.declared.term.Term.{Term}
 use Rattle.terms.specs.Rows.{sumOver}
 
-module _ {P W : Type 0} (weights : Weight.Ghosts W) where
-  -- the sum of all the weights
-  abbrev pub totalOf : List (Term P W) → W
-  totalOf = sumOver weights (λ t. t .weight)
+-- the sum of all the weights
+abbrev pub totalOf : {P W : Type 0} → Weight.Ghosts W → List (Term P W) → W
+totalOf weights = sumOver weights (λ t. t .weight)
 
-module _ {P W : Type 0} (kind : Performance.Ghosts P) (weights : Weight.Ghosts W) where
-  -- the sum of the weights of the terms that meet a demand
-  abbrev pub metOf : P → List (Term P W) → W
-  metOf demand = sumOver weights (λ t. cond (kind .meets (t .performance) demand) (t .weight) (weights .nothing))
+module _ {P W : Type 0} (kind : Performance.Ghosts P) (weights : Weight.Ghosts W) (demand : P) where
+  -- a term counts with its weight if it meets the demand
+  abbrev pub countedFor : Term P W → W
+  countedFor t = cond (kind .meets (t .performance) demand) (t .weight) (weights .nothing)
+
+  -- the sum of the weights of the terms that meet the demand
+  abbrev pub metOf : List (Term P W) → W
+  metOf = sumOver weights countedFor
