@@ -1,18 +1,12 @@
 -- Distributions, and the row that a list of terms has.
 use mathlib.Core.Path.{_≡_}
 use mathlib.Core.List.{List, [], _∷_}
-use mathlib.Core.Bool.{Bool, true, false}
+use mathlib.Core.Bool.{false}
 use Rattle.std.specs.declared.cmp.Ordering.{Ordering}
 use Rattle.std.specs.declared.cmp.Ordering.the-variants.{Less, Equal, Greater}
 use Rattle.kinds.specs.declared.performance.Performance
 use Rattle.kinds.specs.declared.weight.Weight
 use Rattle.terms.specs.declared.term.Term.{Term}
-
--- a comparison says same
-abbrev pub isSame : Ordering → Bool
-isSame Less = false
-isSame Equal = true
-isSame Greater = false
 
 -- x where a comparison says same, else y
 abbrev pub ifSame : {W : Type 0} → Ordering → W → W → W

@@ -1,9 +1,11 @@
 // Merging terms into a row in lent memory: one text for every kind and weight.
 ghost use mathlib.Core.Path.{_≡_};
-ghost use mathlib.Core.List.{_∷_, _++_};
+ghost use mathlib.Core.Bool.{true, false};
+ghost use mathlib.Core.List.{_∷_};
 ghost use Prim.Native.Nat.{_≤_};
 ghost use lib.ListN.{length, take};
-ghost use Rattle.terms.specs.Rows.{IsRow, isSame};
+ghost use Rattle.std.specs.declared.option.Option.the-variants.{Some};
+ghost use Rattle.terms.specs.Rows.{IsRow};
 ghost use Rattle.terms.specs.Merging.{Merges, Adds, lengthIn};
 ghost use Rattle.terms.specs.Combinations.{term};
 use crate::term::Filled;
@@ -47,31 +49,47 @@ fn merge_into<P: Performance, W: Weight>(terms: &[Term<P, W>], room: &mut [Term<
     Some(filled)
 }
 
-// Adds one term: at the place where it is guessed to stand, else by going through the row.
+// Adds one term: at the last place, at the next, at the one found by halving, or else by going through the row.
+// The first three are guesses that `add_if_like` looks at before it trusts them.
 pub(crate) fn put<P: Performance, W: Weight>(room: &mut [Term<P, W>], filled: Filled, t: Term<P, W>) -> Option<Filled>
     requires { ⌜ filled .len ≤ length (now room) ⌝ }
     ensures { λ r. ⌜ (IsRow P·Performance W·Weight (take (filled .len) (now (room .entry))) → Merges P·Performance W·Weight (t ∷ take (filled .len) (now (room .entry))) (now (room .exit)) (lengthIn r)) ⌝ }
 {
-    let at = guess(room, filled, t.performance);
-    add_at(room, filled.len, at, t)
-}
-
-// Adds one term: at the place `at` if a term of its performance stands there, else by going through the row.
-fn add_at<P: Performance, W: Weight>(room: &mut [Term<P, W>], len: usize, at: usize, t: Term<P, W>) -> Option<Filled>
-    requires { ⌜ len ≤ length (now room) ⌝ }
-    ensures { λ r. ⌜ (IsRow P·Performance W·Weight (take len (now (room .entry))) → Merges P·Performance W·Weight (t ∷ take len (now (room .entry))) (now (room .exit)) (lengthIn r)) ⌝ }
-{
-    if at < len {
-        let here = room[at];
-        if let Ordering::Equal = here.performance.order(t.performance) {
-            room[at] = grown(here, t.weight);
-            return Some(Filled { len, last: at });
+    let len = filled.len;
+    let last = filled.last;
+    if last < len {
+        if add_if_like(room, len, last, t) {
+            return Some(filled);
         }
+        if add_if_like(room, len, last + 1, t) {
+            return Some(Filled { len, last: last + 1 });
+        }
+    }
+    let at = place_by_halving(room, len, t.performance);
+    if add_if_like(room, len, at, t) {
+        return Some(Filled { len, last: at });
     }
     match insert(room, len, t) {
         Some(n) => Some(Filled { len: n, last: at }),
         None => None,
     }
+}
+
+// Adds one term at the place `at` if a term of its performance stands there, and says whether it does.
+fn add_if_like<P: Performance, W: Weight>(room: &mut [Term<P, W>], len: usize, at: usize, t: Term<P, W>) -> bool
+    requires { ⌜ len ≤ length (now room) ⌝ }
+    ensures added { λ r. ⌜ (r ≡ true → IsRow P·Performance W·Weight (take len (now (room .entry))) → Merges P·Performance W·Weight (t ∷ take len (now (room .entry))) (now (room .exit)) (Some len)) ⌝ }
+    ensures kept { λ r. ⌜ (r ≡ false → now (room .exit) ≡ now (room .entry)) ⌝ }
+{
+    if at >= len {
+        return false;
+    }
+    let here = room[at];
+    if let Ordering::Equal = here.performance.order(t.performance) {
+        room[at] = grown(here, t.weight);
+        return true;
+    }
+    false
 }
 
 // A term with more weight.
@@ -118,28 +136,7 @@ fn weighs_nothing<P: Performance, W: Weight>(t: Term<P, W>) -> bool
     t.weight.is_nothing()
 }
 
-// Where p may stand: the last place, the next, or the one found by halving. `add_at` looks before it trusts this,
-// so nothing is promised but a place of the room or its end.
-fn guess<P: Performance, W: Weight>(room: &[Term<P, W>], filled: Filled, p: P) -> usize
-    requires { ⌜ filled .len ≤ length (now room) ⌝ }
-    ensures { λ r. ⌜ r ≤ filled .len ⌝ }
-{
-    let last = filled.last;
-    if last < filled.len && is_like(room[last].performance, p) {
-        return last;
-    }
-    if last < filled.len && last + 1 < filled.len && is_like(room[last + 1].performance, p) {
-        return last + 1;
-    }
-    place_by_halving(room, filled.len, p)
-}
-
-fn is_like<P: Performance>(p: P, q: P) -> bool
-    ensures { λ r. ⌜ r ≡ isSame (compared p q) ⌝ }
-{
-    if let Ordering::Equal = p.order(q) { true } else { false }
-}
-
+// Where p stands if it stands in the row. Nothing rests on it, so nothing is promised but a place or the end.
 fn place_by_halving<P: Performance, W: Weight>(room: &[Term<P, W>], len: usize, p: P) -> usize
     requires { ⌜ len ≤ length (now room) ⌝ }
     ensures { λ r. ⌜ r ≤ len ⌝ }
