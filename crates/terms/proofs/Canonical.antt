@@ -13,7 +13,7 @@ use Rattle.kinds.specs.declared.weight.Weight
 use Rattle.terms.specs.declared.term.Term.{Term}
 use Rattle.terms.specs.Rows.{ifSame, sumOver, share, weightAt, SameDistribution, Above, IsRow, RowOf}
 use Rattle.terms.specs.Combinations.{term}
-use Rattle.terms.proofs.Lawful.{Kind, Weighing}
+use Rattle.kinds.proofs.Lawful.{Kind, Weighing}
 use Rattle.terms.proofs.Summing.{Additive, neutral-right, left-comm}
 
 abbrev pub byOrder : {X : Type 0} → Ordering → X → X → X → X

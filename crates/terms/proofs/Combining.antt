@@ -8,7 +8,7 @@ use Rattle.terms.specs.declared.term.Term.{Term}
 use Rattle.terms.specs.Rows.{sumOver, share, SameDistribution}
 use Rattle.terms.specs.Combinations.{each, term, combined, combinations, bridges}
 use Rattle.terms.specs.Sums.{totalOf, metOf, countedFor}
-use Rattle.terms.proofs.Lawful.{Kind, Weighing}
+use Rattle.kinds.proofs.Lawful.{Kind, Weighing}
 use Rattle.terms.proofs.Summing.{Additive, Linear, linear-itself, linear-times, linear-scaled, additive-through, additive-sum, sum-cong, sum-each, sum-one, sum-swap}
 use Rattle.terms.proofs.Canonical.{share-additive, sum-same}
 use Rattle.terms.proofs.Looping.{each-append}

@@ -1,4 +1,3 @@
-pub mod Lawful
 pub mod Summing
 pub mod Canonical
 pub mod Passing

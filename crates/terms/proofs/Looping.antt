@@ -12,7 +12,7 @@ use Rattle.terms.specs.declared.term.Term.{Term}
 use Rattle.terms.specs.Rows.{sumOver, share, weightAt, SameDistribution, RowOf}
 use Rattle.terms.specs.Merging.{Merges}
 use Rattle.terms.specs.Combinations.{each}
-use Rattle.terms.proofs.Lawful.{Kind, Weighing}
+use Rattle.kinds.proofs.Lawful.{Kind, Weighing}
 use Rattle.terms.proofs.Summing.{sum-append, sum-one}
 use Rattle.terms.proofs.Canonical.{canon, canon-row, canon-longer, row-unique}
 

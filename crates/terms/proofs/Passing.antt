@@ -12,7 +12,7 @@ use Rattle.kinds.specs.declared.performance.Performance
 use Rattle.kinds.specs.declared.weight.Weight
 use Rattle.terms.specs.declared.term.Term.{Term}
 use Rattle.terms.specs.Rows.{IsRow, RowOf}
-use Rattle.terms.proofs.Lawful.{Kind, Weighing}
+use Rattle.kinds.proofs.Lawful.{Kind, Weighing}
 use Rattle.terms.proofs.Canonical.{putIn, mergeIn, grownBy, byOrder, row-mergeIn, sum-mergeIn, share-additive}
 
 module _ {P W : Type 0} (kind : Performance.Ghosts P) (weights : Weight.Ghosts W) where

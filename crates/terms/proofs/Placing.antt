@@ -10,7 +10,7 @@ use Rattle.kinds.specs.declared.performance.Performance
 use Rattle.kinds.specs.declared.weight.Weight
 use Rattle.terms.specs.declared.term.Term.{Term}
 use Rattle.terms.specs.Rows.{sumOver, share, Above, IsRow, RowOf}
-use Rattle.terms.proofs.Lawful.{Kind, Weighing}
+use Rattle.kinds.proofs.Lawful.{Kind, Weighing}
 use Rattle.terms.proofs.Summing.{Additive, left-comm}
 use Rattle.terms.proofs.Canonical.{grownBy, term-like, something-sum, share-additive}
 

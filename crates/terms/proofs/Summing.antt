@@ -5,7 +5,7 @@ use Rattle.kinds.specs.declared.weight.Weight
 use Rattle.terms.specs.declared.term.Term.{Term}
 use Rattle.terms.specs.Rows.{sumOver}
 use Rattle.terms.specs.Combinations.{term, each}
-use Rattle.terms.proofs.Lawful.{Weighing}
+use Rattle.kinds.proofs.Lawful.{Weighing}
 
 -- what a term gives adds up with its weight
 pub record Additive {P W : Type 0} (weights : Weight.Ghosts W) (gives : Term P W → W) : Type 0 where

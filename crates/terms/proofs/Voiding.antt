@@ -9,7 +9,7 @@ use Rattle.terms.specs.declared.term.Term.{Term}
 use Rattle.terms.specs.Rows.{ifSame, share, weightAt, IsRow, RowOf}
 use Rattle.terms.specs.Combinations.{each}
 use Rattle.terms.specs.Picking.{pickedToB, pickedToC, pickedToD}
-use Rattle.terms.proofs.Lawful.{Kind, Weighing}
+use Rattle.kinds.proofs.Lawful.{Kind, Weighing}
 use Rattle.terms.proofs.Summing.{sum-append}
 
 module _ {P W : Type 0} {kind : Performance.Ghosts P} {weights : Weight.Ghosts W} (k : Kind kind) (w : Weighing weights) where

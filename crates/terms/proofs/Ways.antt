@@ -5,7 +5,7 @@ use Rattle.kinds.specs.declared.performance.Performance
 use Rattle.terms.specs.declared.term.Way.{Way}
 use Rattle.terms.specs.declared.term.Way.the-variants.{Series, Parallel}
 use Rattle.terms.specs.Combinations.{joins, ordered}
-use Rattle.terms.proofs.Lawful.{Kind}
+use Rattle.kinds.proofs.Lawful.{Kind}
 
 module _ {P : Type 0} {kind : Performance.Ghosts P} (k : Kind kind) where
   pub joins-associate : (way : Way) (a b c : P) → joins kind way (joins kind way a b) c ≡ joins kind way a (joins kind way b c)

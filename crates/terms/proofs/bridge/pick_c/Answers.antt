@@ -6,7 +6,7 @@ use Rattle.terms.specs.Rows.{RowOf}
 use Rattle.terms.specs.Merging.{Merges}
 use Rattle.terms.specs.Combinations.{term}
 use Rattle.terms.specs.Picking.{pickedToB, pickedToC}
-use Rattle.terms.proofs.Lawful.{lawful-kind, lawful-weight}
+use Rattle.kinds.proofs.Lawful.{lawful-kind, lawful-weight}
 use Rattle.terms.proofs.Looping.{each-more, each-refused, each-all}
 use Rattle.terms.proofs.Voiding.{void-to-B, void-adds}
 use Rattle.terms.proofs.bridge.pick_c.Needs as need

@@ -4,7 +4,7 @@ use borrow.Author.Needs.{needs}
 use native.Mathlib.Omega.{arith}
 use lib.ListN.{length, take, set, length-set}
 use Rattle.terms.specs.Rows.{RowOf}
-use Rattle.terms.proofs.Lawful.{lawful-kind, lawful-weight}
+use Rattle.kinds.proofs.Lawful.{lawful-kind, lawful-weight}
 use Rattle.terms.proofs.Placing.{add-here}
 use Rattle.terms.proofs.merge.add_if_like.Needs as need
 

@@ -4,7 +4,7 @@ use Prim.Native.Nat.{ℕ, _+_, _-_, _≤_, _<_}
 use native.Mathlib.Omega.{arith}
 use lib.ListN.{length, take, set, getD, length-set}
 use Rattle.std.proofs.shelf.Lists.{take-more-set, length-take-le, length-push}
-use Rattle.terms.proofs.Lawful.{lawful-kind, lawful-weight}
+use Rattle.kinds.proofs.Lawful.{lawful-kind, lawful-weight}
 use Rattle.terms.proofs.Canonical.{putIn}
 use Rattle.terms.proofs.Passing.{Passed, pass-less, pass-greater, pass-equal, pass-end, passed-as, nothing-row, something-row}
 use Rattle.terms.proofs.merge.insert.Needs as need

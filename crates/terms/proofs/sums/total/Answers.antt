@@ -1,7 +1,7 @@
 use mathlib.Core.Path.{sym, ap, _∙_}
 use Rattle.std.proofs.shelf.Lists.{take-all}
 use Rattle.terms.specs.Rows.{sumOver}
-use Rattle.terms.proofs.Lawful.{lawful-weight}
+use Rattle.kinds.proofs.Lawful.{lawful-weight}
 use Rattle.terms.proofs.Looping.{sum-more}
 use Rattle.terms.proofs.sums.total.Needs as need
 

@@ -1,4 +1,4 @@
-use Rattle.terms.proofs.Lawful.{lawful-kind, lawful-weight}
+use Rattle.kinds.proofs.Lawful.{lawful-kind, lawful-weight}
 use Rattle.terms.proofs.Combining.{bridges-keep}
 use Rattle.terms.proofs.theorems.bridging_keeps_distributions.Needs as need
 

@@ -1,7 +1,7 @@
 use mathlib.Core.Path.{ap}
 use Rattle.terms.specs.Rows.{weightAt}
 use Rattle.terms.specs.Combinations.{joins}
-use Rattle.terms.proofs.Lawful.{lawful-kind, lawful-weight}
+use Rattle.kinds.proofs.Lawful.{lawful-kind, lawful-weight}
 use Rattle.terms.proofs.Combining.{combinations-keep, combinations-associate, combinations-commute}
 use Rattle.terms.proofs.Ways.{joins-associate, joins-commute}
 use Rattle.terms.proofs.theorems.combining_keeps_laws.Needs as need

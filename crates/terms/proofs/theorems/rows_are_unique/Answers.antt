@@ -1,4 +1,4 @@
-use Rattle.terms.proofs.Lawful.{lawful-kind, lawful-weight}
+use Rattle.kinds.proofs.Lawful.{lawful-kind, lawful-weight}
 use Rattle.terms.proofs.Canonical.{canon, canon-row, row-unique}
 use Rattle.terms.proofs.Answering.{one-answer}
 use Rattle.terms.proofs.theorems.rows_are_unique.Needs as need

@@ -1,21 +1,17 @@
-use native.Mathlib.Omega.{arith}
-use Rattle.kinds.specs.Capped.{top32}
-use Rattle.kinds.proofs.Caps.{sum-assoc, sum-comm}
-use Rattle.kinds.proofs.Numeric.{numeric-equal}
-use Rattle.kinds.proofs.Same.{flow-same}
+use Rattle.kinds.proofs.FlowLaws.{flow-laws}
 use Rattle.kinds.proofs.flow.FlowPerformance.the-impl.Needs as need
 
 pub same-identical-law : need.same-identical-law
-same-identical-law a b h = flow-same a b (numeric-equal (a .rate) (b .rate) h)
+same-identical-law = flow-laws .same-only
 
 pub series-associative-law : need.series-associative-law
-series-associative-law a b c = flow-same _ _ (omega arith)
+series-associative-law = flow-laws .series-assoc
 
 pub parallel-associative-law : need.parallel-associative-law
-parallel-associative-law a b c = flow-same _ _ (sum-assoc top32 (a .rate) (b .rate) (c .rate))
+parallel-associative-law = flow-laws .parallel-assoc
 
 pub series-commutative-law : need.series-commutative-law
-series-commutative-law e a b = flow-same _ _ (omega arith)
+series-commutative-law = flow-laws .series-comm
 
 pub parallel-commutative-law : need.parallel-commutative-law
-parallel-commutative-law e a b = flow-same _ _ (sum-comm top32 (a .rate) (b .rate))
+parallel-commutative-law = flow-laws .parallel-comm

@@ -1,0 +1,78 @@
+// A small plant from start to end: two pumps in parallel, then a pipe in series.
+ghost use Rattle.worked.specs.Examples.{IsState};
+use kinds::flow::FlowPerformance;
+use kinds::parts::PartsWeight;
+use kinds::values::Flow;
+use kinds::values::Parts;
+use std::alloc::AllocError;
+use std::alloc::Global;
+use std::error::AnyError;
+use terms::combine::combine;
+use terms::merge::merge;
+use terms::sums::availability;
+use terms::term::Term;
+use terms::term::Way;
+
+mod examples;
+
+type State = Term<Flow, Parts>;
+
+// The room that a row is worked out in.
+const ROOM: usize = 64;
+
+// `count` parts of the whole pass `rate`.
+fn state(rate: u32, count: u32) -> State
+    ensures { λ r. ⌜ IsState rate count r ⌝ }
+{
+    Term { performance: Flow::new(rate), weight: Parts::new(count) }
+}
+
+// A row as a line of text, each term as performance:parts.
+fn line(heap: Global, name: &str, row: &[State]) -> Result<String, AllocError> {
+    let mut text = String::from_str(heap, name)?;
+    for t in row {
+        let rate = t.performance.rate();
+        let count = t.weight.count();
+        let term = format!(heap, " {rate}:{count}")?;
+        text.push_str(&term)?;
+    }
+    Ok(text)
+}
+
+// What of a row meets a need, as a line of text.
+fn need(heap: Global, row: &[State], rate: u32) -> Result<String, AllocError> {
+    let (met, all) = availability(row, Flow::new(rate));
+    let met = met.count();
+    let all = all.count();
+    format!(heap, "a need of {rate} is met by {met} of {all} parts")
+}
+
+fn run(rt: &LibcRuntime) -> Result<(), AnyError> {
+    let heap = rt.alloc();
+    let pump_a = [state(0, 1), state(3, 9)];
+    let pump_b = [state(0, 2), state(2, 8)];
+    let pipe = [state(4, 7), state(0, 3)];
+    rt.println("Two pumps in parallel, then a pipe in series; each state as flow:parts.")?;
+    rt.println(line(heap, "pump A    ", &pump_a)?)?;
+    rt.println(line(heap, "pump B    ", &pump_b)?)?;
+    rt.println(line(heap, "pipe      ", &pipe)?)?;
+
+    let mut pumps = [state(0, 0); ROOM];
+    let Some(n) = combine(Way::Parallel, &pump_a, &pump_b, &mut pumps) else {
+        return Err("the row of the pumps has too many terms".into());
+    };
+    let mut plant = [state(0, 0); ROOM];
+    let Some(m) = combine(Way::Series, &pumps[0..n], &pipe, &mut plant) else {
+        return Err("the row of the plant has too many terms".into());
+    };
+    rt.println("Worked out:")?;
+    rt.println(line(heap, "both pumps", &pumps[0..n])?)?;
+    rt.println(line(heap, "the plant ", &plant[0..m])?)?;
+    rt.println(need(heap, &plant[0..m], 3)?)?;
+    rt.println(need(heap, &plant[0..m], 5)?)?;
+    Ok(())
+}
+
+fn main(rt: LibcRuntime) -> Result<(), AnyError> {
+    rt.report(run(&rt))
+}
