@@ -13,3 +13,6 @@ pub mod scenarios;
 pub mod theorems;
 pub mod values;
 pub mod weight;
+
+#[cfg(test)]
+mod tests;

@@ -5,3 +5,6 @@ pub mod merge;
 pub mod sums;
 pub mod term;
 pub mod theorems;
+
+#[cfg(test)]
+mod tests;

@@ -1,5 +1,10 @@
 // A small plant from start to end: two pumps in parallel, then a pipe in series.
+ghost use mathlib.Core.List.{_++_};
+ghost use mathlib.Core.Path.{_≡_};
+ghost use Rattle.std.specs.Of.String.{string-bytes};
+ghost use Rattle.std.specs.Vec.{made};
 ghost use Rattle.worked.specs.Examples.{IsState};
+ghost use Rattle.worked.specs.Lines.{termText, rowText, needText, demandText};
 use kinds::flow::FlowPerformance;
 use kinds::parts::PartsWeight;
 use kinds::values::Flow;
@@ -8,7 +13,6 @@ use std::alloc::AllocError;
 use std::alloc::Global;
 use std::error::AnyError;
 use terms::combine::combine;
-use terms::merge::merge;
 use terms::sums::availability;
 use terms::term::Term;
 use terms::term::Way;
@@ -27,24 +31,38 @@ fn state(rate: u32, count: u32) -> State
     Term { performance: Flow::new(rate), weight: Parts::new(count) }
 }
 
-// A row as a line of text, each term as performance:parts.
-fn line(heap: Global, name: &str, row: &[State]) -> Result<String, AllocError> {
+// A term as text.
+fn term_text(heap: Global, rate: u32, count: u32) -> Result<String, AllocError>
+    ensures { λ r. ⌜ made r (λ s. string-bytes s ≡ termText rate count) ⌝ }
+{
+    format!(heap, " {rate}:{count}")
+}
+
+// A row as a line of text.
+fn line(heap: Global, name: &str, row: &[State]) -> Result<String, AllocError>
+    ensures { λ r. ⌜ made r (λ s. string-bytes s ≡ now (name .entry) ++ rowText (now (row .entry))) ⌝ }
+{
     let mut text = String::from_str(heap, name)?;
     for t in row {
-        let rate = t.performance.rate();
-        let count = t.weight.count();
-        let term = format!(heap, " {rate}:{count}")?;
-        text.push_str(&term)?;
+        let more = term_text(heap, t.performance.rate(), t.weight.count())?;
+        text.push_str(&more)?;
     }
     Ok(text)
 }
 
-// What of a row meets a need, as a line of text.
-fn need(heap: Global, row: &[State], rate: u32) -> Result<String, AllocError> {
-    let (met, all) = availability(row, Flow::new(rate));
-    let met = met.count();
-    let all = all.count();
+// A need, and what meets it of all, as text.
+fn need_text(heap: Global, rate: u32, met: u32, all: u32) -> Result<String, AllocError>
+    ensures { λ r. ⌜ made r (λ s. string-bytes s ≡ needText rate met all) ⌝ }
+{
     format!(heap, "a need of {rate} is met by {met} of {all} parts")
+}
+
+// What of a row meets a demand, as a line of text.
+fn demand_line(heap: Global, row: &[State], demand: Flow) -> Result<String, AllocError>
+    ensures { λ r. ⌜ made r (λ s. string-bytes s ≡ demandText demand (now (row .entry))) ⌝ }
+{
+    let (met, all) = availability(row, demand);
+    need_text(heap, demand.rate(), met.count(), all.count())
 }
 
 fn run(rt: &LibcRuntime) -> Result<(), AnyError> {
@@ -68,8 +86,8 @@ fn run(rt: &LibcRuntime) -> Result<(), AnyError> {
     rt.println("Worked out:")?;
     rt.println(line(heap, "both pumps", &pumps[0..n])?)?;
     rt.println(line(heap, "the plant ", &plant[0..m])?)?;
-    rt.println(need(heap, &plant[0..m], 3)?)?;
-    rt.println(need(heap, &plant[0..m], 5)?)?;
+    rt.println(demand_line(heap, &plant[0..m], Flow::new(3))?)?;
+    rt.println(demand_line(heap, &plant[0..m], Flow::new(5))?)?;
     Ok(())
 }
 
