@@ -25,12 +25,12 @@ pub and-within : (v w : ℕ) → Within v w → bitAnd v w ≡ v
 and-within =
     bin-ind (λ (n : ℕ). (w : ℕ) → Within n w → bitAnd n w ≡ n) (λ w h. refl)
     (λ n ih w h. by-digits
-      (and-half n w ∙ ih (w / 2) (λ i m.
-        let p = shr-shr n 1 i in
-        let q = shr-shr w 1 i in
-        let k = h (1 + i) (ap (λ x. x % 2) (sym p) ∙ m) in
-        ap (λ x. x % 2) q ∙ k))
-      (and-low n w ∙ ⊎-elim (λ e. let k = h 0 (omega arith) in omega arith) (λ e. omega arith) (cases-eq (n % 2) 1)))
+    (and-half n w ∙ ih (w / 2) (λ i m.
+    let p = shr-shr n 1 i in
+    let q = shr-shr w 1 i in
+    let k = h (1 + i) (ap (λ x. x % 2) (sym p) ∙ m) in
+    ap (λ x. x % 2) q ∙ k))
+    (and-low n w ∙ ⊎-elim (λ e. let k = h 0 (omega arith) in omega arith) (λ e. omega arith) (cases-eq (n % 2) 1)))
 
 pub meets-within : (v w : ℕ) → Decides (eqb (bitAnd v w) v) (Within v w)
 meets-within v w = decides-like (eqb (bitAnd v w) v) (within-and v w) (and-within v w) (decides-eqb (bitAnd v w) v)

@@ -17,8 +17,8 @@ parts-laws = record {
   sum-comm = λ a b. parts-same _ _ (sum-comm top32 (a .count) (b .count));
   neutral = λ a. parts-same _ _ (omega (arith, a .fits));
   no-cancelling = λ a b h.
-    let e = ap (λ (x : Parts). x .count) h in
-    (parts-same _ _ (omega (arith, a .fits)), parts-same _ _ (omega (arith, b .fits)));
+      let e = ap (λ (x : Parts). x .count) h in
+      (parts-same _ _ (omega (arith, a .fits)), parts-same _ _ (omega (arith, b .fits)));
   product-assoc = λ a b c. parts-same _ _ (product-assoc top32 (a .count) (b .count) (c .count));
   product-comm = λ a b. parts-same _ _ (product-comm top32 (a .count) (b .count));
   distributes = λ a b c. parts-same _ _ (product-sum top32 (a .count) (b .count) (c .count));

@@ -17,8 +17,8 @@ scenarios-laws = record {
   sum-comm = λ a b. scenarios-same _ _ (or-comm (a .members) (b .members));
   neutral = λ a. scenarios-same _ _ (or-zero-l (a .members));
   no-cancelling = λ a b h.
-    let e = or-none (a .members) (b .members) (ap (λ (x : Scenarios). x .members) h) in
-    (scenarios-same _ _ (e .0), scenarios-same _ _ (e .1));
+      let e = or-none (a .members) (b .members) (ap (λ (x : Scenarios). x .members) h) in
+      (scenarios-same _ _ (e .0), scenarios-same _ _ (e .1));
   product-assoc = λ a b c. scenarios-same _ _ (and-assoc (a .members) (b .members) (c .members));
   product-comm = λ a b. scenarios-same _ _ (and-comm (a .members) (b .members));
   distributes = λ a b c. scenarios-same _ _ (and-or (a .members) (b .members) (c .members));

@@ -15,18 +15,18 @@ then-less Equal p h = inr (refl, h)
 then-less Greater p h = let z : _≡_ {A = ℕ} 0 1 = cc in absurd (omega arith)
 
 module _ {X Y : Type 0} (f : X → X → Ordering) (g : Y → Y → Ordering)
-  (same : (a b : X) → f a b ≡ Equal → a ≡ b)
-  (f-less : (a b c : X) → f a b ≡ Less → f b c ≡ Less → f a c ≡ Less)
-  (g-less : (a b c : Y) → g a b ≡ Less → g b c ≡ Less → g a c ≡ Less) where
+    (same : (a b : X) → f a b ≡ Equal → a ≡ b)
+    (f-less : (a b c : X) → f a b ≡ Less → f b c ≡ Less → f a c ≡ Less)
+    (g-less : (a b c : Y) → g a b ≡ Less → g b c ≡ Less → g a c ≡ Less) where
   pub pair-less : (a b c : Pair X Y) → pair-compared f g a b ≡ Less → pair-compared f g b c ≡ Less → pair-compared f g a c ≡ Less
   pair-less a b c p q =
       ⊎-elim
       (λ l. ⊎-elim
-        (λ m. let r = f-less (a .first) (b .first) (c .first) l m in cc)
-        (λ m. let e = same (b .first) (c .first) (m .0) in cc)
-        (then-less (f (b .first) (c .first)) (g (b .second) (c .second)) q))
+      (λ m. let r = f-less (a .first) (b .first) (c .first) l m in cc)
+      (λ m. let e = same (b .first) (c .first) (m .0) in cc)
+      (then-less (f (b .first) (c .first)) (g (b .second) (c .second)) q))
       (λ l. let e = same (a .first) (b .first) (l .0) in ⊎-elim
-        (λ m. cc)
-        (λ m. let r = g-less (a .second) (b .second) (c .second) (l .1) (m .1) in cc)
-        (then-less (f (b .first) (c .first)) (g (b .second) (c .second)) q))
+      (λ m. cc)
+      (λ m. let r = g-less (a .second) (b .second) (c .second) (l .1) (m .1) in cc)
+      (then-less (f (b .first) (c .first)) (g (b .second) (c .second)) q))
       (then-less (f (a .first) (b .first)) (g (a .second) (b .second)) p)

@@ -26,11 +26,11 @@ delay-parallel a b = record { time = min (a .time) (b .time); fits = omega (arit
 abbrev pub delay-bridge : Delay → Delay → Delay → Delay → Delay → Delay
 delay-bridge a b c d e = record {
   time =
-    leastOfFour
-    (capped top32 (a .time + d .time))
-    (capped top32 (b .time + e .time))
-    (capped top32 (a .time + c .time + e .time))
-    (capped top32 (b .time + c .time + d .time));
+      leastOfFour
+      (capped top32 (a .time + d .time))
+      (capped top32 (b .time + e .time))
+      (capped top32 (a .time + c .time + e .time))
+      (capped top32 (b .time + c .time + d .time));
   fits = omega arith;
 }
 

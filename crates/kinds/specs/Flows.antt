@@ -26,11 +26,11 @@ flow-parallel a b = record { rate = capped-sum top32 (a .rate) (b .rate); fits =
 abbrev pub flow-bridge : Flow → Flow → Flow → Flow → Flow → Flow
 flow-bridge a b c d e = record {
   rate =
-    leastOfFour
-    (capped top32 (a .rate + b .rate))
-    (capped top32 (d .rate + e .rate))
-    (capped top32 (a .rate + c .rate + e .rate))
-    (capped top32 (b .rate + c .rate + d .rate));
+      leastOfFour
+      (capped top32 (a .rate + b .rate))
+      (capped top32 (d .rate + e .rate))
+      (capped top32 (a .rate + c .rate + e .rate))
+      (capped top32 (b .rate + c .rate + d .rate));
   fits = omega arith;
 }
 

@@ -26,14 +26,21 @@ impl Delay {
 
 pub impl Performance for Delay as DelayPerformance {
     const SERIES_ORDER_COUNTS: bool = false;
+
     const PARALLEL_ORDER_COUNTS: bool = false;
 
     ghost compared = { delay-compared };
+
     ghost series = { delay-series };
+
     ghost parallel = { delay-parallel };
+
     ghost bridge = { delay-bridge };
+
     ghost meets = { delay-meets };
+
     ghost seriesOrdered = { false };
+
     ghost parallelOrdered = { false };
 
     fn series_ordered() -> bool {

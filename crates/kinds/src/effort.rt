@@ -23,8 +23,11 @@ impl Effort {
 
 pub impl Weight for Effort as EffortWeight {
     ghost nothing = { effort-nothing };
+
     ghost sum = { effort-sum };
+
     ghost product = { effort-product };
+
     ghost isNothing = { effort-none };
 
     fn none() -> Effort {

@@ -23,14 +23,21 @@ impl FaultSet {
 
 pub impl Performance for FaultSet as FaultSetPerformance {
     const SERIES_ORDER_COUNTS: bool = false;
+
     const PARALLEL_ORDER_COUNTS: bool = false;
 
     ghost compared = { faults-compared };
+
     ghost series = { faults-series };
+
     ghost parallel = { faults-parallel };
+
     ghost bridge = { faults-bridge };
+
     ghost meets = { faults-meets };
+
     ghost seriesOrdered = { false };
+
     ghost parallelOrdered = { false };
 
     fn series_ordered() -> bool {

@@ -23,14 +23,21 @@ impl FirstFault {
 
 pub impl Performance for FirstFault as FirstFaultPerformance {
     const SERIES_ORDER_COUNTS: bool = true;
+
     const PARALLEL_ORDER_COUNTS: bool = true;
 
     ghost compared = { first-compared };
+
     ghost series = { first-series };
+
     ghost parallel = { first-parallel };
+
     ghost bridge = { first-bridge };
+
     ghost meets = { first-meets };
+
     ghost seriesOrdered = { true };
+
     ghost parallelOrdered = { true };
 
     fn series_ordered() -> bool {
@@ -50,10 +57,20 @@ pub impl Performance for FirstFault as FirstFaultPerformance {
     }
 
     fn in_parallel(self, other: FirstFault) -> FirstFault {
-        if self.fault != 0 && other.fault == 0 { other } else { self }
+        if self.fault != 0 && other.fault == 0 {
+            other
+        } else {
+            self
+        }
     }
 
-    fn in_bridge(a: FirstFault, b: FirstFault, c: FirstFault, d: FirstFault, e: FirstFault) -> FirstFault {
+    fn in_bridge(
+        a: FirstFault,
+        b: FirstFault,
+        c: FirstFault,
+        d: FirstFault,
+        e: FirstFault,
+    ) -> FirstFault {
         let upper = a.in_series(d);
         let lower = b.in_series(e);
         let down = a.in_series(c).in_series(e);

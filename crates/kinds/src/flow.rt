@@ -25,14 +25,21 @@ impl Flow {
 
 pub impl Performance for Flow as FlowPerformance {
     const SERIES_ORDER_COUNTS: bool = false;
+
     const PARALLEL_ORDER_COUNTS: bool = false;
 
     ghost compared = { flow-compared };
+
     ghost series = { flow-series };
+
     ghost parallel = { flow-parallel };
+
     ghost bridge = { flow-bridge };
+
     ghost meets = { flow-meets };
+
     ghost seriesOrdered = { false };
+
     ghost parallelOrdered = { false };
 
     fn series_ordered() -> bool {

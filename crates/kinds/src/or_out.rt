@@ -6,14 +6,21 @@ use std::cmp::Ordering;
 
 pub impl<K: Performance> Performance for OrOut<K> as OrOutPerformance {
     const SERIES_ORDER_COUNTS: bool = K::SERIES_ORDER_COUNTS;
+
     const PARALLEL_ORDER_COUNTS: bool = K::PARALLEL_ORDER_COUNTS;
 
     ghost compared = { out-compared (K·Performance .compared) };
+
     ghost series = { out-series (K·Performance .series) };
+
     ghost parallel = { out-parallel (K·Performance .parallel) };
+
     ghost bridge = { out-bridge (K·Performance .series) (K·Performance .parallel) (K·Performance .bridge) };
+
     ghost meets = { out-meets (K·Performance .meets) };
+
     ghost seriesOrdered = { K·Performance .seriesOrdered };
+
     ghost parallelOrdered = { K·Performance .parallelOrdered };
 
     fn series_ordered() -> bool {
@@ -55,9 +62,13 @@ pub impl<K: Performance> Performance for OrOut<K> as OrOutPerformance {
             (a, OrOut::Out, c, d, e) => a.in_series(d.in_parallel(c.in_series(e))),
             (a, b, c, OrOut::Out, e) => a.in_series(c).in_parallel(b).in_series(e),
             (a, b, c, d, OrOut::Out) => a.in_parallel(b.in_series(c)).in_series(d),
-            (OrOut::Working(a), OrOut::Working(b), OrOut::Working(c), OrOut::Working(d), OrOut::Working(e)) => {
-                OrOut::Working(K::in_bridge(a, b, c, d, e))
-            }
+            (
+                OrOut::Working(a),
+                OrOut::Working(b),
+                OrOut::Working(c),
+                OrOut::Working(d),
+                OrOut::Working(e),
+            ) => { OrOut::Working(K::in_bridge(a, b, c, d, e)) }
         }
     }
 

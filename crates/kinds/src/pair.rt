@@ -7,14 +7,21 @@ use std::cmp::Ordering;
 
 pub impl<A: Performance, B: Performance> Performance for Pair<A, B> as PairPerformance {
     const SERIES_ORDER_COUNTS: bool = A::SERIES_ORDER_COUNTS || B::SERIES_ORDER_COUNTS;
+
     const PARALLEL_ORDER_COUNTS: bool = A::PARALLEL_ORDER_COUNTS || B::PARALLEL_ORDER_COUNTS;
 
     ghost compared = { pair-compared (A·Performance .compared) (B·Performance .compared) };
+
     ghost series = { pair-joined (A·Performance .series) (B·Performance .series) };
+
     ghost parallel = { pair-joined (A·Performance .parallel) (B·Performance .parallel) };
+
     ghost bridge = { pair-bridge (A·Performance .bridge) (B·Performance .bridge) };
+
     ghost meets = { pair-meets (A·Performance .meets) (B·Performance .meets) };
+
     ghost seriesOrdered = { A·Performance .seriesOrdered || B·Performance .seriesOrdered };
+
     ghost parallelOrdered = { A·Performance .parallelOrdered || B·Performance .parallelOrdered };
 
     fn series_ordered() -> bool {
@@ -33,11 +40,17 @@ pub impl<A: Performance, B: Performance> Performance for Pair<A, B> as PairPerfo
     }
 
     fn in_series(self, other: Self) -> Self {
-        Pair { first: self.first.in_series(other.first), second: self.second.in_series(other.second) }
+        Pair {
+            first: self.first.in_series(other.first),
+            second: self.second.in_series(other.second),
+        }
     }
 
     fn in_parallel(self, other: Self) -> Self {
-        Pair { first: self.first.in_parallel(other.first), second: self.second.in_parallel(other.second) }
+        Pair {
+            first: self.first.in_parallel(other.first),
+            second: self.second.in_parallel(other.second),
+        }
     }
 
     fn in_bridge(a: Self, b: Self, c: Self, d: Self, e: Self) -> Self {

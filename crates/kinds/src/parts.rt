@@ -22,8 +22,11 @@ impl Parts {
 
 pub impl Weight for Parts as PartsWeight {
     ghost nothing = { parts-nothing };
+
     ghost sum = { parts-sum };
+
     ghost product = { parts-product };
+
     ghost isNothing = { parts-none };
 
     fn none() -> Parts {

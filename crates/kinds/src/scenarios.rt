@@ -21,8 +21,11 @@ impl Scenarios {
 
 pub impl Weight for Scenarios as ScenariosWeight {
     ghost nothing = { scenarios-nothing };
+
     ghost sum = { scenarios-sum };
+
     ghost product = { scenarios-product };
+
     ghost isNothing = { scenarios-none };
 
     fn none() -> Scenarios {

@@ -73,7 +73,6 @@ module _ {P W : Type 0} (kind : Performance.Ghosts P) (weights : Weight.Ghosts W
 
 module _ {P W : Type 0} {kind : Performance.Ghosts P} {weights : Weight.Ghosts W} (k : Kind kind) (w : Weighing weights) where
   infixr 50 _⊕_
-
   abbrev _⊕_ : W → W → W
   u ⊕ v = weights .sum u v
 

@@ -62,12 +62,13 @@ module _ {P W : Type 0} {kind : Performance.Ghosts P} {weights : Weight.Ghosts W
   combinations-associate op assoc xs ys zs =
       each-each xs (λ x. each ys λ y. combined weights op x y ∷ []) (λ t. each zs λ z. combined weights op t z ∷ [])
       ∙ each-cong xs _ _ (λ x.
-        each-each ys (λ y. combined weights op x y ∷ []) (λ t. each zs λ z. combined weights op t z ∷ [])
-        ∙ each-cong ys _ _ (λ y. each-nil x y ∙ each-cong zs _ _ (λ z. ap (λ t. t ∷ []) (triple x y z)) ∙ sym (each-each zs (λ z. combined weights op y z ∷ []) (λ t. combined weights op x t ∷ []) ∙ refl))
-        ∙ sym (each-each ys (λ y. each zs λ z. combined weights op y z ∷ []) (λ t. combined weights op x t ∷ [])))
+      each-each ys (λ y. combined weights op x y ∷ []) (λ t. each zs λ z. combined weights op t z ∷ [])
+      ∙ each-cong ys _ _ (λ y. each-nil x y ∙ each-cong zs _ _ (λ z. ap (λ t. t ∷ []) (triple x y z)) ∙ sym (each-each zs (λ z. combined weights op y z ∷ []) (λ t. combined weights op x t ∷ []) ∙ refl))
+      ∙ sym (each-each ys (λ y. each zs λ z. combined weights op y z ∷ []) (λ t. combined weights op x t ∷ [])))
     where
       triple : (x y z : T) → combined weights op (combined weights op x y) z ≡ combined weights op x (combined weights op y z)
       triple x y z = same-term (assoc (x .performance) (y .performance) (z .performance)) (w .product-assoc (x .weight) (y .weight) (z .weight))
+
       each-nil : (x y : T) → each (combined weights op x y ∷ []) (λ t. each zs λ z. combined weights op t z ∷ []) ≡ each zs (λ z. combined weights op (combined weights op x y) z ∷ [])
       each-nil x y = append-nil _
 
@@ -82,15 +83,14 @@ module _ {P W : Type 0} {kind : Performance.Ghosts P} {weights : Weight.Ghosts W
   -- five lists
 
   infixl 60 _⊗_
-
   abbrev _⊗_ : W → W → W
   u ⊗ v = weights .product u v
 
   abbrev five : T → T → T → T → T → T
   five a b c d e =
       term weights
-        (kind .bridge (a .performance) (b .performance) (c .performance) (d .performance) (e .performance))
-        (a .weight ⊗ b .weight ⊗ c .weight ⊗ d .weight ⊗ e .weight)
+      (kind .bridge (a .performance) (b .performance) (c .performance) (d .performance) (e .performance))
+      (a .weight ⊗ b .weight ⊗ c .weight ⊗ d .weight ⊗ e .weight)
 
   module _ (gives : T → W) where
     abbrev over-e : List T → T → T → T → T → W
@@ -108,10 +108,10 @@ module _ {P W : Type 0} {kind : Performance.Ghosts P} {weights : Weight.Ghosts W
     sum-bridges : (qs bs cs ds es : List T) → total gives (bridges kind weights qs bs cs ds es) ≡ total (over-b bs cs ds es) qs
     sum-bridges qs bs cs ds es =
         sum-each w gives qs _ ∙ sum-cong w _ _ qs (λ a.
-          sum-each w gives bs _ ∙ sum-cong w _ _ bs (λ b.
-            sum-each w gives cs _ ∙ sum-cong w _ _ cs (λ c.
-              sum-each w gives ds _ ∙ sum-cong w _ _ ds (λ d.
-                sum-each w gives es _ ∙ sum-cong w _ _ es (λ e. sum-one w gives (five a b c d e))))))
+        sum-each w gives bs _ ∙ sum-cong w _ _ bs (λ b.
+        sum-each w gives cs _ ∙ sum-cong w _ _ cs (λ c.
+        sum-each w gives ds _ ∙ sum-cong w _ _ ds (λ d.
+        sum-each w gives es _ ∙ sum-cong w _ _ es (λ e. sum-one w gives (five a b c d e))))))
 
     module _ (add : Additive weights gives) where
       at-e : (a b c d : T) → Additive weights (λ e. gives (five a b c d e))
@@ -147,12 +147,12 @@ module _ {P W : Type 0} {kind : Performance.Ghosts P} {weights : Weight.Ghosts W
       sum-bridges gives qs bs cs ds es
       ∙ sum-same k w _ (at-a gives add bs cs ds es) qs qs′ same-a
       ∙ sum-cong w _ _ qs′ (λ a.
-        sum-same k w _ (at-b gives add cs ds es a) bs bs′ same-b
-        ∙ sum-cong w _ _ bs′ (λ b.
-          sum-same k w _ (at-c gives add ds es a b) cs cs′ same-c
-          ∙ sum-cong w _ _ cs′ (λ c.
-            sum-same k w _ (at-d gives add es a b c) ds ds′ same-d
-            ∙ sum-cong w _ _ ds′ (λ d. sum-same k w _ (at-e gives add a b c d) es es′ same-e))))
+      sum-same k w _ (at-b gives add cs ds es a) bs bs′ same-b
+      ∙ sum-cong w _ _ bs′ (λ b.
+      sum-same k w _ (at-c gives add ds es a b) cs cs′ same-c
+      ∙ sum-cong w _ _ cs′ (λ c.
+      sum-same k w _ (at-d gives add es a b c) ds ds′ same-d
+      ∙ sum-cong w _ _ ds′ (λ d. sum-same k w _ (at-e gives add a b c d) es es′ same-e))))
       ∙ sym (sum-bridges gives qs′ bs′ cs′ ds′ es′)
 
   -- sums

@@ -84,9 +84,9 @@ module _ {P W : Type 0} {kind : Performance.Ghosts P} {weights : Weight.Ghosts W
         let split : each xs f ≡ done ++ left = ap (λ z. each z f) (sym (take-append-drop (i + 1) xs)) ∙ each-append (take (i + 1) xs) (drop (i + 1) xs) f in
         longer (f x ++ r) (each xs f ++ r₀) left room
         (λ p. ap (λ z. weightAt kind weights (z ++ r₀) p) split
-          ∙ append-same (done ++ left) (left ++ done) r₀ r₀ (append-swap done left) (λ _. refl) p
-          ∙ ap (λ z. weightAt kind weights z p) (append-assoc left done r₀)
-          ∙ append-same left left (done ++ r₀) (f x ++ r) (λ _. refl) same-more p)
+        ∙ append-same (done ++ left) (left ++ done) r₀ r₀ (append-swap done left) (λ _. refl) p
+        ∙ ap (λ z. weightAt kind weights z p) (append-assoc left done r₀)
+        ∙ append-same left left (done ++ r₀) (f x ++ r) (λ _. refl) same-more p)
         a
 
   -- the loop is over

@@ -24,7 +24,6 @@ take-set-in (suc n) (x ∷ xs) (suc i) y = ap (λ z. x ∷ z) (take-set-in n xs 
 
 module _ {P W : Type 0} {kind : Performance.Ghosts P} {weights : Weight.Ghosts W} (k : Kind kind) (w : Weighing weights) where
   infixr 50 _⊕_
-
   abbrev _⊕_ : W → W → W
   u ⊕ v = weights .sum u v
 

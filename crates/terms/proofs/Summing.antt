@@ -20,7 +20,6 @@ pub record Linear {W : Type 0} (weights : Weight.Ghosts W) (f : W → W) : Type 
 module _ {W : Type 0} {weights : Weight.Ghosts W} (w : Weighing weights) where
   infixr 50 _⊕_
   infixl 60 _⊗_
-
   abbrev _⊕_ : W → W → W
   u ⊕ v = weights .sum u v
 
@@ -107,6 +106,6 @@ module _ {W : Type 0} {weights : Weight.Ghosts W} (w : Weighing weights) where
   additive-sum g ys a = record {
     none = λ p. sum-cong (g (term weights p (weights .nothing))) (λ _. weights .nothing) ys (λ y. a y .none p) ∙ sum-nothing ys;
     more = λ p u v.
-      sum-cong (g (term weights p (u ⊕ v))) (λ y. g (term weights p u) y ⊕ g (term weights p v) y) ys (λ y. a y .more p u v)
-      ∙ sum-both (g (term weights p u)) (g (term weights p v)) ys;
+        sum-cong (g (term weights p (u ⊕ v))) (λ y. g (term weights p u) y ⊕ g (term weights p v) y) ys (λ y. a y .more p u v)
+        ∙ sum-both (g (term weights p u)) (g (term weights p v)) ys;
   }

@@ -36,7 +36,6 @@ module _ {P W : Type 0} (weights : Weight.Ghosts W) where
 
 module _ {P W : Type 0} (kind : Performance.Ghosts P) (weights : Weight.Ghosts W) where
   infixl 60 _⊗_
-
   abbrev _⊗_ : W → W → W
   v ⊗ w = weights .product v w
 
@@ -45,6 +44,6 @@ module _ {P W : Type 0} (kind : Performance.Ghosts P) (weights : Weight.Ghosts W
   bridges qs bs cs ds es =
       each qs λ a. each bs λ b. each cs λ c. each ds λ d. each es λ e.
       term weights
-        (kind .bridge (a .performance) (b .performance) (c .performance) (d .performance) (e .performance))
-        (a .weight ⊗ b .weight ⊗ c .weight ⊗ d .weight ⊗ e .weight)
+      (kind .bridge (a .performance) (b .performance) (c .performance) (d .performance) (e .performance))
+      (a .weight ⊗ b .weight ⊗ c .weight ⊗ d .weight ⊗ e .weight)
       ∷ []

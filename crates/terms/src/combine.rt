@@ -14,7 +14,12 @@ use kinds::performance::Performance;
 use kinds::weight::Weight;
 
 // The row of the combinations of `xs` and `ys`, in the first places of `room`; None where the row is longer than the room.
-pub fn combine<P: Performance, W: Weight>(way: Way, xs: &[Term<P, W>], ys: &[Term<P, W>], room: &mut [Term<P, W>]) -> Option<usize>
+pub fn combine<P: Performance, W: Weight>(
+    way: Way,
+    xs: &[Term<P, W>],
+    ys: &[Term<P, W>],
+    room: &mut [Term<P, W>],
+) -> Option<usize>
     ensures { λ r. ⌜ Merges P·Performance W·Weight (combinations W·Weight (joins P·Performance way) (now (xs .entry)) (now (ys .entry))) (now (room .exit)) r ⌝ }
 {
     match combine_into(way, xs, ys, room) {
@@ -31,11 +36,19 @@ pub fn pair_up<P: Performance, W: Weight>(way: Way, x: Term<P, W>, y: Term<P, W>
         Way::Series => x.performance.in_series(y.performance),
         Way::Parallel => x.performance.in_parallel(y.performance),
     };
-    Term { performance, weight: x.weight.times(y.weight) }
+    Term {
+        performance,
+        weight: x.weight.times(y.weight),
+    }
 }
 
 // Every x with all of `ys`.
-fn combine_into<P: Performance, W: Weight>(way: Way, xs: &[Term<P, W>], ys: &[Term<P, W>], room: &mut [Term<P, W>]) -> Option<Filled>
+fn combine_into<P: Performance, W: Weight>(
+    way: Way,
+    xs: &[Term<P, W>],
+    ys: &[Term<P, W>],
+    room: &mut [Term<P, W>],
+) -> Option<Filled>
     ensures { λ r. ⌜ Merges P·Performance W·Weight (combinations W·Weight (joins P·Performance way) (now (xs .entry)) (now (ys .entry))) (now (room .exit)) (lengthIn r) ⌝ }
 {
     let mut filled = Filled { len: 0, last: 0 };
@@ -49,7 +62,13 @@ fn combine_into<P: Performance, W: Weight>(way: Way, xs: &[Term<P, W>], ys: &[Te
 }
 
 // Merges the combinations of `x` with all of `ys` into the row that stands in `room`.
-fn spread<P: Performance, W: Weight>(way: Way, x: Term<P, W>, ys: &[Term<P, W>], room: &mut [Term<P, W>], start: Filled) -> Option<Filled>
+fn spread<P: Performance, W: Weight>(
+    way: Way,
+    x: Term<P, W>,
+    ys: &[Term<P, W>],
+    room: &mut [Term<P, W>],
+    start: Filled,
+) -> Option<Filled>
     requires { ⌜ start .len ≤ length (now room) ⌝ ∗ ⌜ IsRow P·Performance W·Weight (take (start .len) (now room)) ⌝ }
     ensures { λ r. ⌜ Merges P·Performance W·Weight (each (now (ys .entry)) (λ y. combined W·Weight (joins P·Performance way) x y ∷ []) ++ take (start .len) (now (room .entry))) (now (room .exit)) (lengthIn r) ⌝ }
 {

@@ -4,7 +4,6 @@ pub mod combine;
 pub mod merge;
 pub mod sums;
 pub mod term;
-pub mod theorems;
-
 #[cfg(test)]
 mod tests;
+pub mod theorems;

@@ -15,7 +15,10 @@ use kinds::weight::Weight;
 use std::cmp::Ordering;
 
 // The row of `terms`, in the first places of `room`; None where the row is longer than the room.
-pub fn merge<P: Performance, W: Weight>(terms: &[Term<P, W>], room: &mut [Term<P, W>]) -> Option<usize>
+pub fn merge<P: Performance, W: Weight>(
+    terms: &[Term<P, W>],
+    room: &mut [Term<P, W>],
+) -> Option<usize>
     ensures { λ r. ⌜ Merges P·Performance W·Weight (now (terms .entry)) (now (room .exit)) r ⌝ }
 {
     match merge_into(terms, room) {
@@ -26,7 +29,11 @@ pub fn merge<P: Performance, W: Weight>(terms: &[Term<P, W>], room: &mut [Term<P
 
 // Adds one term to the row in the first `filled.len` places of `room`; None where the row grows longer than the
 // room, or the room is shorter than `filled.len`.
-pub fn add<P: Performance, W: Weight>(room: &mut [Term<P, W>], filled: Filled, t: Term<P, W>) -> Option<Filled>
+pub fn add<P: Performance, W: Weight>(
+    room: &mut [Term<P, W>],
+    filled: Filled,
+    t: Term<P, W>,
+) -> Option<Filled>
     ensures { λ r. ⌜ Adds P·Performance W·Weight t (filled .len) (now (room .entry)) (now (room .exit)) (lengthIn r) ⌝ }
 {
     if filled.len > room.len() {
@@ -36,7 +43,10 @@ pub fn add<P: Performance, W: Weight>(room: &mut [Term<P, W>], filled: Filled, t
 }
 
 // One term after the other.
-fn merge_into<P: Performance, W: Weight>(terms: &[Term<P, W>], room: &mut [Term<P, W>]) -> Option<Filled>
+fn merge_into<P: Performance, W: Weight>(
+    terms: &[Term<P, W>],
+    room: &mut [Term<P, W>],
+) -> Option<Filled>
     ensures { λ r. ⌜ Merges P·Performance W·Weight (now (terms .entry)) (now (room .exit)) (lengthIn r) ⌝ }
 {
     let mut filled = Filled { len: 0, last: 0 };
@@ -51,7 +61,11 @@ fn merge_into<P: Performance, W: Weight>(terms: &[Term<P, W>], room: &mut [Term<
 
 // Adds one term: at the last place, at the next, at the one found by halving, or else by going through the row.
 // The first three are guesses that `add_if_like` looks at before it trusts them.
-pub(crate) fn put<P: Performance, W: Weight>(room: &mut [Term<P, W>], filled: Filled, t: Term<P, W>) -> Option<Filled>
+pub(crate) fn put<P: Performance, W: Weight>(
+    room: &mut [Term<P, W>],
+    filled: Filled,
+    t: Term<P, W>,
+) -> Option<Filled>
     requires { ⌜ filled .len ≤ length (now room) ⌝ }
     ensures { λ r. ⌜ (IsRow P·Performance W·Weight (take (filled .len) (now (room .entry))) → Merges P·Performance W·Weight (t ∷ take (filled .len) (now (room .entry))) (now (room .exit)) (lengthIn r)) ⌝ }
 {
@@ -62,7 +76,10 @@ pub(crate) fn put<P: Performance, W: Weight>(room: &mut [Term<P, W>], filled: Fi
             return Some(filled);
         }
         if add_if_like(room, len, last + 1, t) {
-            return Some(Filled { len, last: last + 1 });
+            return Some(Filled {
+                len,
+                last: last + 1,
+            });
         }
     }
     let at = place_by_halving(room, len, t.performance);
@@ -76,7 +93,12 @@ pub(crate) fn put<P: Performance, W: Weight>(room: &mut [Term<P, W>], filled: Fi
 }
 
 // Adds one term at the place `at` if a term of its performance stands there, and says whether it does.
-fn add_if_like<P: Performance, W: Weight>(room: &mut [Term<P, W>], len: usize, at: usize, t: Term<P, W>) -> bool
+fn add_if_like<P: Performance, W: Weight>(
+    room: &mut [Term<P, W>],
+    len: usize,
+    at: usize,
+    t: Term<P, W>,
+) -> bool
     requires { ⌜ len ≤ length (now room) ⌝ }
     ensures added { λ r. ⌜ (r ≡ true → IsRow P·Performance W·Weight (take len (now (room .entry))) → Merges P·Performance W·Weight (t ∷ take len (now (room .entry))) (now (room .exit)) (Some len)) ⌝ }
     ensures kept { λ r. ⌜ (r ≡ false → now (room .exit) ≡ now (room .entry)) ⌝ }
@@ -96,11 +118,18 @@ fn add_if_like<P: Performance, W: Weight>(room: &mut [Term<P, W>], len: usize, a
 fn grown<P: Performance, W: Weight>(t: Term<P, W>, more: W) -> Term<P, W>
     ensures { λ r. ⌜ r ≡ term W·Weight (t .performance) (sum (t .weight) more) ⌝ }
 {
-    Term { performance: t.performance, weight: t.weight.plus(more) }
+    Term {
+        performance: t.performance,
+        weight: t.weight.plus(more),
+    }
 }
 
 // Adds one term by going through the row: what does not belong in a place is carried to the next.
-fn insert<P: Performance, W: Weight>(room: &mut [Term<P, W>], len: usize, t: Term<P, W>) -> Option<usize>
+fn insert<P: Performance, W: Weight>(
+    room: &mut [Term<P, W>],
+    len: usize,
+    t: Term<P, W>,
+) -> Option<usize>
     requires { ⌜ len ≤ length (now room) ⌝ }
     ensures { λ r. ⌜ (IsRow P·Performance W·Weight (take len (now (room .entry))) → Merges P·Performance W·Weight (t ∷ take len (now (room .entry))) (now (room .exit)) r) ⌝ }
 {

@@ -38,5 +38,9 @@ fn met<P: Performance, W: Weight>(row: &[Term<P, W>], demand: P) -> W
 fn counted<P: Performance, W: Weight>(t: Term<P, W>, demand: P) -> W
     ensures { λ r. ⌜ r ≡ countedFor P·Performance W·Weight demand t ⌝ }
 {
-    if t.performance.satisfies(demand) { t.weight } else { W::none() }
+    if t.performance.satisfies(demand) {
+        t.weight
+    } else {
+        W::none()
+    }
 }

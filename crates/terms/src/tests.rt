@@ -13,7 +13,10 @@ use std::test::*;
 type State = Term<Flow, Parts>;
 
 fn state(rate: u32, count: u32) -> State {
-    Term { performance: Flow::new(rate), weight: Parts::new(count) }
+    Term {
+        performance: Flow::new(rate),
+        weight: Parts::new(count),
+    }
 }
 
 #[test]
@@ -47,11 +50,36 @@ fn weights_stop_at_the_top() -> Result<(), Fail> {
 // Flows 0 to 7 parallel with 0, 8, .. 56 have 64 levels, which a room of 64 holds; one more has 72.
 #[test]
 fn a_65th_level_is_refused() -> Result<(), Fail> {
-    let units = [state(0, 1), state(1, 1), state(2, 1), state(3, 1), state(4, 1), state(5, 1), state(6, 1), state(7, 1)];
-    let eights = [state(0, 1), state(8, 1), state(16, 1), state(24, 1), state(32, 1), state(40, 1), state(48, 1), state(56, 1), state(64, 1)];
+    let units = [
+        state(0, 1),
+        state(1, 1),
+        state(2, 1),
+        state(3, 1),
+        state(4, 1),
+        state(5, 1),
+        state(6, 1),
+        state(7, 1),
+    ];
+    let eights = [
+        state(0, 1),
+        state(8, 1),
+        state(16, 1),
+        state(24, 1),
+        state(32, 1),
+        state(40, 1),
+        state(48, 1),
+        state(56, 1),
+        state(64, 1),
+    ];
     let mut room = [state(0, 0); 64];
-    check_eq(combine(Way::Parallel, &units, &eights[0..8], &mut room), Some(64))?;
+    check_eq(
+        combine(Way::Parallel, &units, &eights[0..8], &mut room),
+        Some(64),
+    )?;
     check_eq(room[63].performance.rate(), 63)?;
     check_eq(combine(Way::Parallel, &units, &eights, &mut room), None)?;
-    check_eq(combine(Way::Series, &eights, &eights, &mut room[0..9]), Some(9)).note("81 combinations, 9 levels")
+    check_eq(
+        combine(Way::Series, &eights, &eights, &mut room[0..9]),
+        Some(9),
+    ).note("81 combinations, 9 levels")
 }

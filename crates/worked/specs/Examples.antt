@@ -4,13 +4,12 @@ use mathlib.Core.List.{List, [], _∷_}
 use Prim.Native.Nat.{ℕ, min}
 use native.Mathlib.Omega.{arith}
 use Rattle.kinds.specs.Capped.{top32}
-use Rattle.kinds.specs.Holding.{Holds}
-use Rattle.kinds.specs.Flows.{flow-rate, flow-series, flow-parallel, flow-bridge}
+use Rattle.kinds.specs.Flows.{flow-series, flow-parallel, flow-bridge}
 use Rattle.kinds.specs.Delays.{delay-bridge}
 use Rattle.kinds.specs.FaultSets.{faults-bridge}
 use Rattle.kinds.specs.FirstFaults.{first-series, first-parallel}
 use Rattle.kinds.specs.Outs.{out-bridge}
-use Rattle.kinds.specs.Parts.{parts-count, parts-product}
+use Rattle.kinds.specs.Parts.{parts-product}
 use Rattle.kinds.specs.Scenarios.{scenarios-product, scenarios-nothing}
 use Rattle.kinds.specs.declared.values.Flow.{Flow}
 use Rattle.kinds.specs.declared.values.Delay.{Delay}
@@ -52,17 +51,12 @@ service n = Working (flow n)
 
 -- states of flow and parts
 infix 90 _at_
-
 abbrev pub _at_ : ℕ → ℕ → Term Flow Parts
 rate at count = record { performance = flow rate; weight = parts count }
 
 -- the list has the row
 abbrev pub HasRow : List (Term Flow Parts) → List (Term Flow Parts) → Type 0
 HasRow = RowOf flow-kind.ghosts parts-weight.ghosts
-
--- what code makes of a rate and a count
-abbrev pub IsState : ℕ → ℕ → Term Flow Parts → Type 0
-IsState rate count t = Holds flow-rate rate (t .performance) × Holds parts-count count (t .weight)
 
 abbrev pumpA : List (Term Flow Parts)
 pumpA = 0 at 1 ∷ 3 at 9 ∷ []
@@ -95,9 +89,9 @@ pub record Examples : Type 0 where
   pub parts-stop-at-the-top : parts-product (parts 2147483648) (parts 2) ≡ parts top32
   pub scenarios-apart : scenarios-product (scenarios 3) (scenarios 12) ≡ scenarios-nothing
   pub no-term-of-scenarios-apart :
-    RowOf flow-kind.ghosts scenarios-weight.ghosts
-    (combinations scenarios-weight.ghosts flow-series (record { performance = flow 1; weight = scenarios 3 } ∷ []) (record { performance = flow 1; weight = scenarios 12 } ∷ []))
-    []
+      RowOf flow-kind.ghosts scenarios-weight.ghosts
+      (combinations scenarios-weight.ghosts flow-series (record { performance = flow 1; weight = scenarios 3 } ∷ []) (record { performance = flow 1; weight = scenarios 12 } ∷ []))
+      []
   pub pumps-in-parallel : HasRow (combinations parts-weight.ghosts flow-parallel pumpA pumpB) pumps
   pub plant-in-series : HasRow (combinations parts-weight.ghosts flow-series pumps pipe) plant
   pub need-of-three : metOf flow-kind.ghosts parts-weight.ghosts (flow 3) plant ≡ parts 630

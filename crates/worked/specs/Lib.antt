@@ -1,2 +1,3 @@
+pub mod Binaries
 pub mod Examples
 pub mod Lines

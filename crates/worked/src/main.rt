@@ -3,12 +3,16 @@ ghost use mathlib.Core.List.{_++_};
 ghost use mathlib.Core.Path.{_≡_};
 ghost use Rattle.std.specs.Of.String.{string-bytes};
 ghost use Rattle.std.specs.Vec.{made};
-ghost use Rattle.worked.specs.Examples.{IsState};
+ghost use Rattle.kinds.specs.Flows.{flow-rate};
+ghost use Rattle.kinds.specs.Holding.{Holds};
+ghost use Rattle.kinds.specs.Parts.{parts-count};
 ghost use Rattle.worked.specs.Lines.{termText, rowText, needText, demandText};
+use binary::ServicePerformance;
 use kinds::flow::FlowPerformance;
 use kinds::parts::PartsWeight;
 use kinds::values::Flow;
 use kinds::values::Parts;
+use service::Service;
 use std::alloc::AllocError;
 use std::alloc::Global;
 use std::error::AnyError;
@@ -17,18 +21,33 @@ use terms::sums::availability;
 use terms::term::Term;
 use terms::term::Way;
 
+mod binary;
 mod examples;
+mod service;
 
 type State = Term<Flow, Parts>;
 
 // The room that a row is worked out in.
 const ROOM: usize = 64;
 
+// A performance that `count` parts of the whole have.
+fn weighed<P: Copy>(performance: P, count: u32) -> Term<P, Parts>
+    ensures { λ r. ⌜ r .performance ≡ performance ⌝ ∗ ⌜ Holds parts-count count (r .weight) ⌝ }
+{
+    Term {
+        performance,
+        weight: Parts::new(count),
+    }
+}
+
 // `count` parts of the whole pass `rate`.
 fn state(rate: u32, count: u32) -> State
-    ensures { λ r. ⌜ IsState rate count r ⌝ }
+    ensures { λ r. ⌜ Holds flow-rate rate (r .performance) ⌝ ∗ ⌜ Holds parts-count count (r .weight) ⌝ }
 {
-    Term { performance: Flow::new(rate), weight: Parts::new(count) }
+    Term {
+        performance: Flow::new(rate),
+        weight: Parts::new(count),
+    }
 }
 
 // A term as text.
@@ -65,7 +84,8 @@ fn demand_line(heap: Global, row: &[State], demand: Flow) -> Result<String, Allo
     need_text(heap, demand.rate(), met.count(), all.count())
 }
 
-fn run(rt: &LibcRuntime) -> Result<(), AnyError> {
+// The plant by what flows through it.
+fn flow_plant(rt: &LibcRuntime) -> Result<(), AnyError> {
     let heap = rt.alloc();
     let pump_a = [state(0, 1), state(3, 9)];
     let pump_b = [state(0, 2), state(2, 8)];
@@ -89,6 +109,34 @@ fn run(rt: &LibcRuntime) -> Result<(), AnyError> {
     rt.println(demand_line(heap, &plant[0..m], Flow::new(3))?)?;
     rt.println(demand_line(heap, &plant[0..m], Flow::new(5))?)?;
     Ok(())
+}
+
+// The same plant with a kind brought from outside the library: a part is up or down.
+fn binary_plant(rt: &LibcRuntime) -> Result<(), AnyError> {
+    let pump_a = [weighed(Service::Up, 9), weighed(Service::Down, 1)];
+    let pump_b = [weighed(Service::Up, 8), weighed(Service::Down, 2)];
+    let pipe = [weighed(Service::Up, 7), weighed(Service::Down, 3)];
+    let mut pumps = [weighed(Service::Down, 0); ROOM];
+    let Some(n) = combine(Way::Parallel, &pump_a, &pump_b, &mut pumps) else {
+        return Err("the row of the pumps has too many terms".into());
+    };
+    let mut plant = [weighed(Service::Down, 0); ROOM];
+    let Some(m) = combine(Way::Series, &pumps[0..n], &pipe, &mut plant) else {
+        return Err("the row of the plant has too many terms".into());
+    };
+    let (up, all) = availability(&plant[0..m], Service::Up);
+    let up = up.count();
+    let all = all.count();
+    println!(
+        rt,
+        "as a plant that is up or down, it is up in {up} of {all} parts"
+    )?;
+    Ok(())
+}
+
+fn run(rt: &LibcRuntime) -> Result<(), AnyError> {
+    flow_plant(rt)?;
+    binary_plant(rt)
 }
 
 fn main(rt: LibcRuntime) -> Result<(), AnyError> {

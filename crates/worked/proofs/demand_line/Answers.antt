@@ -14,4 +14,4 @@ returns c =
     let all = c .count-2 .ensures ∙ ap (λ (r : Parts × Parts). r .1 .count) (c .availability .ensures) in
     subst (λ n. made (c .need-text .result) (λ s. string-bytes s ≡ needText (c .args .demand .rate) (metOf flow-kind.ghosts parts-weight.ghosts (c .args .demand) (c .args .row .now) .count) n)) all
     (subst (λ n. made (c .need-text .result) (λ s. string-bytes s ≡ needText (c .args .demand .rate) n (c .count-2 .result))) met
-      (subst (λ n. made (c .need-text .result) (λ s. string-bytes s ≡ needText n (c .count .result) (c .count-2 .result))) (c .rate .ensures) (c .need-text .ensures)))
+    (subst (λ n. made (c .need-text .result) (λ s. string-bytes s ≡ needText n (c .count .result) (c .count-2 .result))) (c .rate .ensures) (c .need-text .ensures)))

@@ -19,9 +19,10 @@ pick-b-requires g c κs = (c .loop-a .inv .0, c .loop-a .inv .1 .row)
 pub loop-a-again : need.loop-a-again
 loop-a-again g c =
     let k = g .P·Performance in
-    let v = g .W·Weight in
-    (c .in-Some .ensures tt .0,
-     each-more (lawful-kind (g .P·Performance·met)) (lawful-weight (g .W·Weight·met)) (c .args .arm-a .now) (λ t. pickedToA k v (t .performance) (t .weight) (c .args .arm-b .now) (c .args .arm-c .now) (c .args .arm-d .now) (c .args .arm-e .now)) [] (take (c .loop-a .filled .len) (c .loop-a .room)) (c .loop-a .a-index) (c .a-item .result) (c .loop-a-test .taken) (c .a-item .is) (c .loop-a .inv .1 .same) _ (c .in-Some .ensures tt .1))
+    let v = g .W·Weight in (
+      c .in-Some .ensures tt .0,
+      each-more (lawful-kind (g .P·Performance·met)) (lawful-weight (g .W·Weight·met)) (c .args .arm-a .now) (λ t. pickedToA k v (t .performance) (t .weight) (c .args .arm-b .now) (c .args .arm-c .now) (c .args .arm-d .now) (c .args .arm-e .now)) [] (take (c .loop-a .filled .len) (c .loop-a .room)) (c .loop-a .a-index) (c .a-item .result) (c .loop-a-test .taken) (c .a-item .is) (c .loop-a .inv .1 .same) _ (c .in-Some .ensures tt .1),
+    )
 
 pub returns-in-None : need.returns-in-None
 returns-in-None g c =
@@ -33,7 +34,8 @@ returns-in-None g c =
 pub returns : need.returns
 returns g c =
     let k = g .P·Performance in
-    let v = g .W·Weight in
-    (c .loop-a .inv .0,
-     subst (λ z. RowOf k v z (take (c .loop-a .filled .len) (c .loop-a .room))) (append-nil _)
-     (each-all (lawful-kind (g .P·Performance·met)) (lawful-weight (g .W·Weight·met)) (c .args .arm-a .now) (λ t. pickedToA k v (t .performance) (t .weight) (c .args .arm-b .now) (c .args .arm-c .now) (c .args .arm-d .now) (c .args .arm-e .now)) [] _ (c .loop-a .a-index) (c .loop-a-test .left) (c .loop-a .inv .1)))
+    let v = g .W·Weight in (
+      c .loop-a .inv .0,
+      subst (λ z. RowOf k v z (take (c .loop-a .filled .len) (c .loop-a .room))) (append-nil _)
+          (each-all (lawful-kind (g .P·Performance·met)) (lawful-weight (g .W·Weight·met)) (c .args .arm-a .now) (λ t. pickedToA k v (t .performance) (t .weight) (c .args .arm-b .now) (c .args .arm-c .now) (c .args .arm-d .now) (c .args .arm-e .now)) [] _ (c .loop-a .a-index) (c .loop-a-test .left) (c .loop-a .inv .1)),
+    )

@@ -21,10 +21,11 @@ loop-b-again g c =
     let k = g .P·Performance in
     let v = g .W·Weight in
     let row = take (c .loop-b .filled .len) (c .loop-b .room) in
-    let after = take (c .in-Some .more .len) (c .pick-c .last .room) in
-    (c .in-Some .ensures tt .0,
-     each-more (lawful-kind (g .P·Performance·met)) (lawful-weight (g .W·Weight·met)) (c .args .arm-b .now) (λ t. pickedToB k v (c .args .a) (t .performance) (v .product (c .args .weight) (t .weight)) (c .args .arm-c .now) (c .args .arm-d .now) (c .args .arm-e .now)) (take (c .args .start .len) (c .args .room .now)) row (c .loop-b .b-index) (c .b-item .result) (c .loop-b-test .taken) (c .b-item .is) (c .loop-b .inv .1 .same) after
-     (subst (λ u. RowOf k v (pickedToB k v (c .args .a) (c .b-item .result .performance) u (c .args .arm-c .now) (c .args .arm-d .now) (c .args .arm-e .now) ++ row) after) (c .times .ensures) (c .in-Some .ensures tt .1)))
+    let after = take (c .in-Some .more .len) (c .pick-c .last .room) in (
+      c .in-Some .ensures tt .0,
+      each-more (lawful-kind (g .P·Performance·met)) (lawful-weight (g .W·Weight·met)) (c .args .arm-b .now) (λ t. pickedToB k v (c .args .a) (t .performance) (v .product (c .args .weight) (t .weight)) (c .args .arm-c .now) (c .args .arm-d .now) (c .args .arm-e .now)) (take (c .args .start .len) (c .args .room .now)) row (c .loop-b .b-index) (c .b-item .result) (c .loop-b-test .taken) (c .b-item .is) (c .loop-b .inv .1 .same) after
+          (subst (λ u. RowOf k v (pickedToB k v (c .args .a) (c .b-item .result .performance) u (c .args .arm-c .now) (c .args .arm-d .now) (c .args .arm-e .now) ++ row) after) (c .times .ensures) (c .in-Some .ensures tt .1)),
+    )
 
 pub returns-in-None : need.returns-in-None
 returns-in-None g c =
@@ -38,6 +39,7 @@ returns-in-None g c =
 pub returns : need.returns
 returns g c =
     let k = g .P·Performance in
-    let v = g .W·Weight in
-    (c .loop-b .inv .0,
-     each-all (lawful-kind (g .P·Performance·met)) (lawful-weight (g .W·Weight·met)) (c .args .arm-b .now) (λ t. pickedToB k v (c .args .a) (t .performance) (v .product (c .args .weight) (t .weight)) (c .args .arm-c .now) (c .args .arm-d .now) (c .args .arm-e .now)) (take (c .args .start .len) (c .args .room .now)) _ (c .loop-b .b-index) (c .loop-b-test .left) (c .loop-b .inv .1))
+    let v = g .W·Weight in (
+      c .loop-b .inv .0,
+      each-all (lawful-kind (g .P·Performance·met)) (lawful-weight (g .W·Weight·met)) (c .args .arm-b .now) (λ t. pickedToB k v (c .args .a) (t .performance) (v .product (c .args .weight) (t .weight)) (c .args .arm-c .now) (c .args .arm-d .now) (c .args .arm-e .now)) (take (c .args .start .len) (c .args .room .now)) _ (c .loop-b .b-index) (c .loop-b-test .left) (c .loop-b .inv .1),
+    )

@@ -28,10 +28,11 @@ loop-c-again g c =
     let k = g .P·Performance in
     let v = g .W·Weight in
     let row = take (c .loop-c .filled .len) (c .loop-c .room) in
-    let after = take (c .in-Some .more .len) (c .pick-d .last .room) in
-    (c .in-Some .ensures tt .0,
-     each-more (lawful-kind (g .P·Performance·met)) (lawful-weight (g .W·Weight·met)) (c .args .arm-c .now) (λ t. pickedToC k v (c .args .a) (c .args .b) (t .performance) (v .product (c .args .weight) (t .weight)) (c .args .arm-d .now) (c .args .arm-e .now)) (take (c .args .start .len) (c .args .room .now)) row (c .loop-c .c-index) (c .c-item .result) (c .loop-c-test .taken) (c .c-item .is) (c .loop-c .inv .1 .same) after
-     (subst (λ u. RowOf k v (pickedToC k v (c .args .a) (c .args .b) (c .c-item .result .performance) u (c .args .arm-d .now) (c .args .arm-e .now) ++ row) after) (c .times .ensures) (c .in-Some .ensures tt .1)))
+    let after = take (c .in-Some .more .len) (c .pick-d .last .room) in (
+      c .in-Some .ensures tt .0,
+      each-more (lawful-kind (g .P·Performance·met)) (lawful-weight (g .W·Weight·met)) (c .args .arm-c .now) (λ t. pickedToC k v (c .args .a) (c .args .b) (t .performance) (v .product (c .args .weight) (t .weight)) (c .args .arm-d .now) (c .args .arm-e .now)) (take (c .args .start .len) (c .args .room .now)) row (c .loop-c .c-index) (c .c-item .result) (c .loop-c-test .taken) (c .c-item .is) (c .loop-c .inv .1 .same) after
+          (subst (λ u. RowOf k v (pickedToC k v (c .args .a) (c .args .b) (c .c-item .result .performance) u (c .args .arm-d .now) (c .args .arm-e .now) ++ row) after) (c .times .ensures) (c .in-Some .ensures tt .1)),
+    )
 
 pub returns-in-None : need.returns-in-None
 returns-in-None g c =
@@ -45,6 +46,7 @@ returns-in-None g c =
 pub returns : need.returns
 returns g c =
     let k = g .P·Performance in
-    let v = g .W·Weight in
-    (c .loop-c .inv .0,
-     each-all (lawful-kind (g .P·Performance·met)) (lawful-weight (g .W·Weight·met)) (c .args .arm-c .now) (λ t. pickedToC k v (c .args .a) (c .args .b) (t .performance) (v .product (c .args .weight) (t .weight)) (c .args .arm-d .now) (c .args .arm-e .now)) (take (c .args .start .len) (c .args .room .now)) _ (c .loop-c .c-index) (c .loop-c-test .left) (c .loop-c .inv .1))
+    let v = g .W·Weight in (
+      c .loop-c .inv .0,
+      each-all (lawful-kind (g .P·Performance·met)) (lawful-weight (g .W·Weight·met)) (c .args .arm-c .now) (λ t. pickedToC k v (c .args .a) (c .args .b) (t .performance) (v .product (c .args .weight) (t .weight)) (c .args .arm-d .now) (c .args .arm-e .now)) (take (c .args .start .len) (c .args .room .now)) _ (c .loop-c .c-index) (c .loop-c-test .left) (c .loop-c .inv .1),
+    )

@@ -28,10 +28,11 @@ loop-d-again g c =
     let k = g .P·Performance in
     let v = g .W·Weight in
     let row = take (c .loop-d .filled .len) (c .loop-d .room) in
-    let after = take (c .in-Some .more .len) (c .pick-e .last .room) in
-    (c .in-Some .ensures tt .0,
-     each-more (lawful-kind (g .P·Performance·met)) (lawful-weight (g .W·Weight·met)) (c .args .arm-d .now) (λ t. pickedToD k v (c .args .a) (c .args .b) (c .args .c) (t .performance) (v .product (c .args .weight) (t .weight)) (c .args .arm-e .now)) (take (c .args .start .len) (c .args .room .now)) row (c .loop-d .d-index) (c .d-item .result) (c .loop-d-test .taken) (c .d-item .is) (c .loop-d .inv .1 .same) after
-     (subst (λ u. RowOf k v (pickedToD k v (c .args .a) (c .args .b) (c .args .c) (c .d-item .result .performance) u (c .args .arm-e .now) ++ row) after) (c .times .ensures) (c .in-Some .ensures tt .1)))
+    let after = take (c .in-Some .more .len) (c .pick-e .last .room) in (
+      c .in-Some .ensures tt .0,
+      each-more (lawful-kind (g .P·Performance·met)) (lawful-weight (g .W·Weight·met)) (c .args .arm-d .now) (λ t. pickedToD k v (c .args .a) (c .args .b) (c .args .c) (t .performance) (v .product (c .args .weight) (t .weight)) (c .args .arm-e .now)) (take (c .args .start .len) (c .args .room .now)) row (c .loop-d .d-index) (c .d-item .result) (c .loop-d-test .taken) (c .d-item .is) (c .loop-d .inv .1 .same) after
+          (subst (λ u. RowOf k v (pickedToD k v (c .args .a) (c .args .b) (c .args .c) (c .d-item .result .performance) u (c .args .arm-e .now) ++ row) after) (c .times .ensures) (c .in-Some .ensures tt .1)),
+    )
 
 pub returns-in-None : need.returns-in-None
 returns-in-None g c =
@@ -45,6 +46,7 @@ returns-in-None g c =
 pub returns : need.returns
 returns g c =
     let k = g .P·Performance in
-    let v = g .W·Weight in
-    (c .loop-d .inv .0,
-     each-all (lawful-kind (g .P·Performance·met)) (lawful-weight (g .W·Weight·met)) (c .args .arm-d .now) (λ t. pickedToD k v (c .args .a) (c .args .b) (c .args .c) (t .performance) (v .product (c .args .weight) (t .weight)) (c .args .arm-e .now)) (take (c .args .start .len) (c .args .room .now)) _ (c .loop-d .d-index) (c .loop-d-test .left) (c .loop-d .inv .1))
+    let v = g .W·Weight in (
+      c .loop-d .inv .0,
+      each-all (lawful-kind (g .P·Performance·met)) (lawful-weight (g .W·Weight·met)) (c .args .arm-d .now) (λ t. pickedToD k v (c .args .a) (c .args .b) (c .args .c) (t .performance) (v .product (c .args .weight) (t .weight)) (c .args .arm-e .now)) (take (c .args .start .len) (c .args .room .now)) _ (c .loop-d .d-index) (c .loop-d-test .left) (c .loop-d .inv .1),
+    )

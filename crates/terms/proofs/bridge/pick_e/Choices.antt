@@ -10,4 +10,4 @@ Inv-loop-e g l =
     let k = g .P·Performance in
     let v = g .W·Weight in
     (l .filled .len ≤ length (l .room))
-    × RowOf k v (pickedToD k v (l .a) (l .b) (l .c) (l .d) (l .weight) (take (l .e-index) (l .arm-e))  ++ take (l .entry .filled .len) (l .entry .room)) (take (l .filled .len) (l .room))
+    × RowOf k v (pickedToD k v (l .a) (l .b) (l .c) (l .d) (l .weight) (take (l .e-index) (l .arm-e)) ++ take (l .entry .filled .len) (l .entry .room)) (take (l .filled .len) (l .room))

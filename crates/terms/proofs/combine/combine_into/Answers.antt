@@ -20,9 +20,10 @@ pub loop-x-again : need.loop-x-again
 loop-x-again g c =
     let k = g .P·Performance in
     let v = g .W·Weight in
-    let now = c .in-Some .ensures tt in
-    (now .0,
-     each-more (lawful-kind (g .P·Performance·met)) (lawful-weight (g .W·Weight·met)) (c .args .xs .now) (λ x. each (c .args .ys .now) (λ y. combined v (joins k (c .args .way)) x y ∷ [])) [] _ (c .loop-x .x-index) (c .x-item .result) (c .loop-x-test .taken) (c .x-item .is) (c .loop-x .inv .1 .same) _ (now .1))
+    let now = c .in-Some .ensures tt in (
+      now .0,
+      each-more (lawful-kind (g .P·Performance·met)) (lawful-weight (g .W·Weight·met)) (c .args .xs .now) (λ x. each (c .args .ys .now) (λ y. combined v (joins k (c .args .way)) x y ∷ [])) [] _ (c .loop-x .x-index) (c .x-item .result) (c .loop-x-test .taken) (c .x-item .is) (c .loop-x .inv .1 .same) _ (now .1),
+    )
 
 pub returns-in-None : need.returns-in-None
 returns-in-None g c =
@@ -34,7 +35,8 @@ returns-in-None g c =
 pub returns : need.returns
 returns g c =
     let k = g .P·Performance in
-    let v = g .W·Weight in
-    (c .loop-x .inv .0,
-     subst (λ z. RowOf k v z (take (c .loop-x .filled .len) (c .loop-x .room))) (append-nil _)
-     (each-all (lawful-kind (g .P·Performance·met)) (lawful-weight (g .W·Weight·met)) (c .args .xs .now) (λ x. each (c .args .ys .now) (λ y. combined v (joins k (c .args .way)) x y ∷ [])) [] _ (c .loop-x .x-index) (c .loop-x-test .left) (c .loop-x .inv .1)))
+    let v = g .W·Weight in (
+      c .loop-x .inv .0,
+      subst (λ z. RowOf k v z (take (c .loop-x .filled .len) (c .loop-x .room))) (append-nil _)
+          (each-all (lawful-kind (g .P·Performance·met)) (lawful-weight (g .W·Weight·met)) (c .args .xs .now) (λ x. each (c .args .ys .now) (λ y. combined v (joins k (c .args .way)) x y ∷ [])) [] _ (c .loop-x .x-index) (c .loop-x-test .left) (c .loop-x .inv .1)),
+    )

@@ -13,9 +13,10 @@ returns-in-Equal g c =
     let s = c .args .room .now in
     let len = c .args .len in
     record {
-      added = λ _ h.
-        (simp length-set (omega (arith, c .pre)),
-         subst (λ t. RowOf (g .P·Performance) (g .W·Weight) (c .args .t ∷ take len s) (take len (set s (c .args .at) t))) (sym (c .grown .ensures))
-         (add-here (lawful-kind (g .P·Performance·met)) (lawful-weight (g .W·Weight·met)) s len (c .args .at) (c .index-room-at .result) (c .args .t) (c .pre) (c .if-at-len .left) (c .index-room-at .is) h (sym (c .in-Equal .ensures tt))));
+      added = λ _ h. (
+        simp length-set (omega (arith, c .pre)),
+        subst (λ t. RowOf (g .P·Performance) (g .W·Weight) (c .args .t ∷ take len s) (take len (set s (c .args .at) t))) (sym (c .grown .ensures))
+            (add-here (lawful-kind (g .P·Performance·met)) (lawful-weight (g .W·Weight·met)) s len (c .args .at) (c .index-room-at .result) (c .args .t) (c .pre) (c .if-at-len .left) (c .index-room-at .is) h (sym (c .in-Equal .ensures tt))),
+      );
       kept = search needs;
     }

@@ -17,9 +17,10 @@ put-requires g c κs = c .loop-t .inv .0
 
 pub loop-t-again : need.loop-t-again
 loop-t-again g c =
-    let now = c .in-Some .ensures tt (c .loop-t .inv .1 .row) in
-    (now .0,
-     each-more (lawful-kind (g .P·Performance·met)) (lawful-weight (g .W·Weight·met)) (c .args .terms .now) (λ t. t ∷ []) [] _ (c .loop-t .t-index) (c .t-item .result) (c .loop-t-test .taken) (c .t-item .is) (c .loop-t .inv .1 .same) _ (now .1))
+    let now = c .in-Some .ensures tt (c .loop-t .inv .1 .row) in (
+      now .0,
+      each-more (lawful-kind (g .P·Performance·met)) (lawful-weight (g .W·Weight·met)) (c .args .terms .now) (λ t. t ∷ []) [] _ (c .loop-t .t-index) (c .t-item .result) (c .loop-t-test .taken) (c .t-item .is) (c .loop-t .inv .1 .same) _ (now .1),
+    )
 
 pub returns-in-None : need.returns-in-None
 returns-in-None g c =
@@ -29,7 +30,8 @@ returns-in-None g c =
 
 pub returns : need.returns
 returns g c =
-    let ts = c .args .terms .now in
-    (c .loop-t .inv .0,
-     subst (λ z. RowOf (g .P·Performance) (g .W·Weight) z (take (c .loop-t .filled .len) (c .loop-t .room))) (append-nil _ ∙ each-single ts)
-     (each-all (lawful-kind (g .P·Performance·met)) (lawful-weight (g .W·Weight·met)) ts (λ t. t ∷ []) [] _ (c .loop-t .t-index) (c .loop-t-test .left) (c .loop-t .inv .1)))
+    let ts = c .args .terms .now in (
+      c .loop-t .inv .0,
+      subst (λ z. RowOf (g .P·Performance) (g .W·Weight) z (take (c .loop-t .filled .len) (c .loop-t .room))) (append-nil _ ∙ each-single ts)
+          (each-all (lawful-kind (g .P·Performance·met)) (lawful-weight (g .W·Weight·met)) ts (λ t. t ∷ []) [] _ (c .loop-t .t-index) (c .loop-t-test .left) (c .loop-t .inv .1)),
+    )
