@@ -14,13 +14,20 @@ impl Delay {
     pub fn new(time: u32) -> Delay
         ensures { λ r. ⌜ Holds delay-time time r ⌝ }
     {
-        Delay { time }
+        Delay::holding(time)
     }
 
     pub fn time(self) -> u32
         ensures { λ r. ⌜ r ≡ delay-time self ⌝ }
     {
         self.time
+    }
+
+    // The one place where a value is made.
+    fn holding(time: u32) -> Delay
+        ensures { λ r. ⌜ Holds delay-time time r ⌝ }
+    {
+        Delay { time }
     }
 }
 

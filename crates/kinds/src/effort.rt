@@ -11,13 +11,20 @@ impl Effort {
     pub fn new(cost: u32) -> Effort
         ensures { λ r. ⌜ Holds effort-cost cost r ⌝ }
     {
-        Effort { cost }
+        Effort::holding(cost)
     }
 
     pub fn cost(self) -> u32
         ensures { λ r. ⌜ r ≡ effort-cost self ⌝ }
     {
         self.cost
+    }
+
+    // The one place where a value is made.
+    fn holding(cost: u32) -> Effort
+        ensures { λ r. ⌜ Holds effort-cost cost r ⌝ }
+    {
+        Effort { cost }
     }
 }
 

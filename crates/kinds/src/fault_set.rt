@@ -11,13 +11,20 @@ impl FaultSet {
     pub fn new(classes: u32) -> FaultSet
         ensures { λ r. ⌜ Holds fault-classes classes r ⌝ }
     {
-        FaultSet { classes }
+        FaultSet::holding(classes)
     }
 
     pub fn classes(self) -> u32
         ensures { λ r. ⌜ r ≡ fault-classes self ⌝ }
     {
         self.classes
+    }
+
+    // The one place where a value is made.
+    fn holding(classes: u32) -> FaultSet
+        ensures { λ r. ⌜ Holds fault-classes classes r ⌝ }
+    {
+        FaultSet { classes }
     }
 }
 

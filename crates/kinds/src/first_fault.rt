@@ -11,13 +11,20 @@ impl FirstFault {
     pub fn new(fault: u32) -> FirstFault
         ensures { λ r. ⌜ Holds fault-number fault r ⌝ }
     {
-        FirstFault { fault }
+        FirstFault::holding(fault)
     }
 
     pub fn fault(self) -> u32
         ensures { λ r. ⌜ r ≡ fault-number self ⌝ }
     {
         self.fault
+    }
+
+    // The one place where a value is made.
+    fn holding(fault: u32) -> FirstFault
+        ensures { λ r. ⌜ Holds fault-number fault r ⌝ }
+    {
+        FirstFault { fault }
     }
 }
 

@@ -13,13 +13,20 @@ impl Flow {
     pub fn new(rate: u32) -> Flow
         ensures { λ r. ⌜ Holds flow-rate rate r ⌝ }
     {
-        Flow { rate }
+        Flow::holding(rate)
     }
 
     pub fn rate(self) -> u32
         ensures { λ r. ⌜ r ≡ flow-rate self ⌝ }
     {
         self.rate
+    }
+
+    // The one place where a value is made.
+    fn holding(rate: u32) -> Flow
+        ensures { λ r. ⌜ Holds flow-rate rate r ⌝ }
+    {
+        Flow { rate }
     }
 }
 

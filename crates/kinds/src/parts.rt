@@ -10,13 +10,20 @@ impl Parts {
     pub fn new(count: u32) -> Parts
         ensures { λ r. ⌜ Holds parts-count count r ⌝ }
     {
-        Parts { count }
+        Parts::holding(count)
     }
 
     pub fn count(self) -> u32
         ensures { λ r. ⌜ r ≡ parts-count self ⌝ }
     {
         self.count
+    }
+
+    // The one place where a value is made.
+    fn holding(count: u32) -> Parts
+        ensures { λ r. ⌜ Holds parts-count count r ⌝ }
+    {
+        Parts { count }
     }
 }
 

@@ -9,13 +9,20 @@ impl Scenarios {
     pub fn new(members: u32) -> Scenarios
         ensures { λ r. ⌜ Holds scenario-members members r ⌝ }
     {
-        Scenarios { members }
+        Scenarios::holding(members)
     }
 
     pub fn members(self) -> u32
         ensures { λ r. ⌜ r ≡ scenario-members self ⌝ }
     {
         self.members
+    }
+
+    // The one place where a value is made.
+    fn holding(members: u32) -> Scenarios
+        ensures { λ r. ⌜ Holds scenario-members members r ⌝ }
+    {
+        Scenarios { members }
     }
 }
 
