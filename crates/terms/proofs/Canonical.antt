@@ -36,7 +36,7 @@ clash {b} p q = let z : _≡_ {A = ℕ} 0 1 = cc in omega arith
 
 module _ {P W : Type 0} (kind : Performance.Ghosts P) (weights : Weight.Ghosts W) where
   abbrev pub grownBy : Term P W → W → Term P W
-  grownBy x v = term weights (x .performance) (weights .sum (x .weight) v)
+  grownBy x v = term (x .performance) (weights .sum (x .weight) v)
 
   -- a term put into a row, as a carried term goes past each place
   abbrev pub putIn : Term P W → List (Term P W) → List (Term P W)
@@ -89,11 +89,11 @@ module _ {P W : Type 0} {kind : Performance.Ghosts P} {weights : Weight.Ghosts W
   less-greater a b e = k .swaps a b ∙ ap reversed e
 
   -- a term and another of a like performance
-  pub term-like : (x t : T) → kind .compared (x .performance) (t .performance) ≡ Equal → term weights (x .performance) (t .weight) ≡ t
-  term-like x t e = ap (λ p. term weights p (t .weight)) (k .same-only (x .performance) (t .performance) e)
+  pub term-like : (x t : T) → kind .compared (x .performance) (t .performance) ≡ Equal → term (x .performance) (t .weight) ≡ t
+  term-like x t e = ap (λ p. term p (t .weight)) (k .same-only (x .performance) (t .performance) e)
 
-  nothing-term : (t : T) → weights .isNothing (t .weight) ≡ true → term weights (t .performance) (weights .nothing) ≡ t
-  nothing-term t e = ap (term weights (t .performance)) (sym (w .only-nothing (t .weight) e))
+  nothing-term : (t : T) → weights .isNothing (t .weight) ≡ true → term (t .performance) (weights .nothing) ≡ t
+  nothing-term t e = ap (term (t .performance)) (sym (w .only-nothing (t .weight) e))
 
   -- sums over a list and over its row
 
@@ -218,7 +218,7 @@ module _ {P W : Type 0} {kind : Performance.Ghosts P} {weights : Weight.Ghosts W
       firsts c =
           let q = k .same-only (x .performance) (y .performance) c in
           let v : x .weight ≡ y .weight = sym (first-weight x xs (hr .1)) ∙ subst (λ z. weightAt kind weights (x ∷ xs) (x .performance) ≡ weightAt kind weights (y ∷ ys) z) q (e (x .performance)) ∙ first-weight y ys (hs .1) in
-          ap (term weights (x .performance)) v ∙ ap (λ z. term weights z (y .weight)) q
+          ap (term (x .performance)) v ∙ ap (λ z. term z (y .weight)) q
 
   pub row-unique : (ts r s : List T) → RowOf kind weights ts r → RowOf kind weights ts s → r ≡ s
   row-unique ts r s hr hs = unique r s (hr .row) (hs .row) (λ p. sym (hr .same p) ∙ hs .same p)

@@ -6,7 +6,7 @@ use Rattle.kinds.specs.declared.performance.Performance
 use Rattle.kinds.specs.declared.weight.Weight
 use Rattle.terms.specs.declared.term.Term.{Term}
 use Rattle.terms.specs.Rows.{sumOver, share, SameDistribution}
-use Rattle.terms.specs.Combinations.{each, term, combined, combinations, bridges}
+use Rattle.terms.specs.Combinations.{each, term, combined, combinations, bridged, bridges}
 use Rattle.terms.specs.Sums.{totalOf, metOf, countedFor}
 use Rattle.kinds.proofs.Lawful.{Kind, Weighing}
 use Rattle.terms.proofs.Summing.{Additive, Linear, linear-itself, linear-times, linear-scaled, additive-through, additive-sum, sum-cong, sum-each, sum-one, sum-swap}
@@ -31,8 +31,8 @@ module _ {P W : Type 0} {kind : Performance.Ghosts P} {weights : Weight.Ghosts W
   abbrev Same : List T → List T → Type 0
   Same = SameDistribution kind weights
 
-  same-term : {p q : P} {u v : W} → p ≡ q → u ≡ v → _≡_ {A = T} (term weights p u) (term weights q v)
-  same-term {p} {q} {u} {v} e f = ap (λ z. term weights z u) e ∙ ap (term weights q) f
+  same-term : {p q : P} {u v : W} → p ≡ q → u ≡ v → _≡_ {A = T} (term p u) (term q v)
+  same-term {p} {q} {u} {v} e f = ap (λ z. term z u) e ∙ ap (term q) f
 
   -- two lists
 
@@ -87,10 +87,7 @@ module _ {P W : Type 0} {kind : Performance.Ghosts P} {weights : Weight.Ghosts W
   u ⊗ v = weights .product u v
 
   abbrev five : T → T → T → T → T → T
-  five a b c d e =
-      term weights
-      (kind .bridge (a .performance) (b .performance) (c .performance) (d .performance) (e .performance))
-      (a .weight ⊗ b .weight ⊗ c .weight ⊗ d .weight ⊗ e .weight)
+  five = bridged kind weights
 
   module _ (gives : T → W) where
     abbrev over-e : List T → T → T → T → T → W

@@ -9,8 +9,8 @@ use Rattle.kinds.proofs.Lawful.{Weighing}
 
 -- what a term gives adds up with its weight
 pub record Additive {P W : Type 0} (weights : Weight.Ghosts W) (gives : Term P W → W) : Type 0 where
-  pub none : (p : P) → gives (term weights p (weights .nothing)) ≡ weights .nothing
-  pub more : (p : P) (u v : W) → gives (term weights p (weights .sum u v)) ≡ weights .sum (gives (term weights p u)) (gives (term weights p v))
+  pub none : (p : P) → gives (term p (weights .nothing)) ≡ weights .nothing
+  pub more : (p : P) (u v : W) → gives (term p (weights .sum u v)) ≡ weights .sum (gives (term p u)) (gives (term p v))
 
 -- a function of weights that adds up
 pub record Linear {W : Type 0} (weights : Weight.Ghosts W) (f : W → W) : Type 0 where
@@ -63,10 +63,10 @@ module _ {W : Type 0} {weights : Weight.Ghosts W} (w : Weighing weights) where
   }
 
   -- a term's performance and weight may change before it gives, if the weight does so linearly
-  pub additive-through : {X Y : Type 0} (gives : Term Y W → W) → Additive weights gives → (p : X → Y) (f : W → W) → Linear weights f → Additive weights (λ t. gives (term weights (p (t .performance)) (f (t .weight))))
+  pub additive-through : {X Y : Type 0} (gives : Term Y W → W) → Additive weights gives → (p : X → Y) (f : W → W) → Linear weights f → Additive weights (λ t. gives (term (p (t .performance)) (f (t .weight))))
   additive-through gives a p f l = record {
-    none = λ x. ap (λ z. gives (term weights (p x) z)) (l .none) ∙ a .none (p x);
-    more = λ x u v. ap (λ z. gives (term weights (p x) z)) (l .more u v) ∙ a .more (p x) (f u) (f v);
+    none = λ x. ap (λ z. gives (term (p x) z)) (l .none) ∙ a .none (p x);
+    more = λ x u v. ap (λ z. gives (term (p x) z)) (l .more u v) ∙ a .more (p x) (f u) (f v);
   }
 
   -- sums
@@ -104,8 +104,8 @@ module _ {W : Type 0} {weights : Weight.Ghosts W} (w : Weighing weights) where
   -- a sum over a second list is additive where each of its summands is
   pub additive-sum : {X Y : Type 0} (g : Term X W → Term Y W → W) (ys : List (Term Y W)) → ((y : Term Y W) → Additive weights (λ x. g x y)) → Additive weights (λ x. total (g x) ys)
   additive-sum g ys a = record {
-    none = λ p. sum-cong (g (term weights p (weights .nothing))) (λ _. weights .nothing) ys (λ y. a y .none p) ∙ sum-nothing ys;
+    none = λ p. sum-cong (g (term p (weights .nothing))) (λ _. weights .nothing) ys (λ y. a y .none p) ∙ sum-nothing ys;
     more = λ p u v.
-        sum-cong (g (term weights p (u ⊕ v))) (λ y. g (term weights p u) y ⊕ g (term weights p v) y) ys (λ y. a y .more p u v)
-        ∙ sum-both (g (term weights p u)) (g (term weights p v)) ys;
+        sum-cong (g (term p (u ⊕ v))) (λ y. g (term p u) y ⊕ g (term p v) y) ys (λ y. a y .more p u v)
+        ∙ sum-both (g (term p u)) (g (term p v)) ys;
   }

@@ -12,6 +12,9 @@ abbrev pub each : {A B : Type 0} → List A → (A → List B) → List B
 each [] f = []
 each (x ∷ xs) f = f x ++ each xs f
 
+abbrev pub term : {P W : Type 0} → P → W → Term P W
+term p w = record { performance = p; weight = w }
+
 module _ {P : Type 0} (kind : Performance.Ghosts P) where
   -- what joins two performances, and whether their order counts
   abbrev pub joins : Way → P → P → P
@@ -23,9 +26,6 @@ module _ {P : Type 0} (kind : Performance.Ghosts P) where
   ordered Parallel = kind .parallelOrdered
 
 module _ {P W : Type 0} (weights : Weight.Ghosts W) where
-  abbrev pub term : P → W → Term P W
-  term p w = record { performance = p; weight = w }
-
   -- one term of each of two lists, together
   abbrev pub combined : (P → P → P) → Term P W → Term P W → Term P W
   combined op x y = term (op (x .performance) (y .performance)) (weights .product (x .weight) (y .weight))
@@ -39,11 +39,12 @@ module _ {P W : Type 0} (kind : Performance.Ghosts P) (weights : Weight.Ghosts W
   abbrev _⊗_ : W → W → W
   v ⊗ w = weights .product v w
 
-  -- all the combinations of the five arms of a bridge
-  abbrev pub bridges : List (Term P W) → List (Term P W) → List (Term P W) → List (Term P W) → List (Term P W) → List (Term P W)
-  bridges qs bs cs ds es =
-      each qs λ a. each bs λ b. each cs λ c. each ds λ d. each es λ e.
-      term weights
-      (kind .bridge (a .performance) (b .performance) (c .performance) (d .performance) (e .performance))
+  -- one term of each of the five arms of a bridge, together
+  abbrev pub bridged : Term P W → Term P W → Term P W → Term P W → Term P W → Term P W
+  bridged a b c d e =
+      term (kind .bridge (a .performance) (b .performance) (c .performance) (d .performance) (e .performance))
       (a .weight ⊗ b .weight ⊗ c .weight ⊗ d .weight ⊗ e .weight)
-      ∷ []
+
+  -- all the combinations of the five arms
+  abbrev pub bridges : List (Term P W) → List (Term P W) → List (Term P W) → List (Term P W) → List (Term P W) → List (Term P W)
+  bridges qs bs cs ds es = each qs λ a. each bs λ b. each cs λ c. each ds λ d. each es λ e. bridged a b c d e ∷ []

@@ -11,7 +11,7 @@ module _ {P W : Type 0} (kind : Performance.Ghosts P) (weights : Weight.Ghosts W
 
   -- w is the product of the weights picked so far
   abbrev pub pickedToD : P → P → P → P → W → Arm → List (Term P W)
-  pickedToD a b c d w es = each es λ e. term weights (kind .bridge a b c d (e .performance)) (weights .product w (e .weight)) ∷ []
+  pickedToD a b c d w es = each es λ e. term (kind .bridge a b c d (e .performance)) (weights .product w (e .weight)) ∷ []
 
   abbrev pub pickedToC : P → P → P → W → Arm → Arm → List (Term P W)
   pickedToC a b c w ds es = each ds λ d. pickedToD a b c (d .performance) (weights .product w (d .weight)) es

@@ -116,7 +116,7 @@ fn add_if_like<P: Performance, W: Weight>(
 
 // A term with more weight.
 fn grown<P: Performance, W: Weight>(t: Term<P, W>, more: W) -> Term<P, W>
-    ensures { λ r. ⌜ r ≡ term W·Weight (t .performance) (sum (t .weight) more) ⌝ }
+    ensures { λ r. ⌜ r ≡ term (t .performance) (sum (t .weight) more) ⌝ }
 {
     Term {
         performance: t.performance,

@@ -30,9 +30,9 @@ loop-e-again g c =
     let row = take (c .loop-e .filled .len) (c .loop-e .room) in
     let after = take (c .in-Some .more .len) (c .put .last .room) in (
       c .in-Some .ensures tt (c .loop-e .inv .1 .row) .0,
-      each-more (lawful-kind (g .P·Performance·met)) (lawful-weight (g .W·Weight·met)) (c .args .arm-e .now) (λ t. term v (k .bridge (c .args .a) (c .args .b) (c .args .c) (c .args .d) (t .performance)) (v .product (c .args .weight) (t .weight)) ∷ []) (take (c .args .start .len) (c .args .room .now)) row (c .loop-e .e-index) (c .e-item .result) (c .loop-e-test .taken) (c .e-item .is) (c .loop-e .inv .1 .same) after
-          (subst (λ p. RowOf k v (term v p (v .product (c .args .weight) (c .e-item .result .weight)) ∷ row) after) (c .in-bridge .ensures)
-          (subst (λ u. RowOf k v (term v (c .in-bridge .result) u ∷ row) after) (c .times .ensures) (c .in-Some .ensures tt (c .loop-e .inv .1 .row) .1))),
+      each-more (lawful-kind (g .P·Performance·met)) (lawful-weight (g .W·Weight·met)) (c .args .arm-e .now) (λ t. term (k .bridge (c .args .a) (c .args .b) (c .args .c) (c .args .d) (t .performance)) (v .product (c .args .weight) (t .weight)) ∷ []) (take (c .args .start .len) (c .args .room .now)) row (c .loop-e .e-index) (c .e-item .result) (c .loop-e-test .taken) (c .e-item .is) (c .loop-e .inv .1 .same) after
+          (subst (λ p. RowOf k v (term p (v .product (c .args .weight) (c .e-item .result .weight)) ∷ row) after) (c .in-bridge .ensures)
+          (subst (λ u. RowOf k v (term (c .in-bridge .result) u ∷ row) after) (c .times .ensures) (c .in-Some .ensures tt (c .loop-e .inv .1 .row) .1))),
     )
 
 pub returns-in-None : need.returns-in-None
@@ -41,14 +41,14 @@ returns-in-None g c =
     let v = g .W·Weight in
     let row = take (c .loop-e .filled .len) (c .loop-e .room) in
     let after = c .put .last .room in
-    each-refused (lawful-kind (g .P·Performance·met)) (lawful-weight (g .W·Weight·met)) (c .args .arm-e .now) (λ t. term v (k .bridge (c .args .a) (c .args .b) (c .args .c) (c .args .d) (t .performance)) (v .product (c .args .weight) (t .weight)) ∷ []) (take (c .args .start .len) (c .args .room .now)) row (c .loop-e .e-index) (c .e-item .result) (c .loop-e-test .taken) (c .e-item .is) (c .loop-e .inv .1 .same) after
-    (subst (λ p. Merges k v (term v p (v .product (c .args .weight) (c .e-item .result .weight)) ∷ row) after None) (c .in-bridge .ensures)
-    (subst (λ u. Merges k v (term v (c .in-bridge .result) u ∷ row) after None) (c .times .ensures) (c .in-None .ensures tt (c .loop-e .inv .1 .row))))
+    each-refused (lawful-kind (g .P·Performance·met)) (lawful-weight (g .W·Weight·met)) (c .args .arm-e .now) (λ t. term (k .bridge (c .args .a) (c .args .b) (c .args .c) (c .args .d) (t .performance)) (v .product (c .args .weight) (t .weight)) ∷ []) (take (c .args .start .len) (c .args .room .now)) row (c .loop-e .e-index) (c .e-item .result) (c .loop-e-test .taken) (c .e-item .is) (c .loop-e .inv .1 .same) after
+    (subst (λ p. Merges k v (term p (v .product (c .args .weight) (c .e-item .result .weight)) ∷ row) after None) (c .in-bridge .ensures)
+    (subst (λ u. Merges k v (term (c .in-bridge .result) u ∷ row) after None) (c .times .ensures) (c .in-None .ensures tt (c .loop-e .inv .1 .row))))
 
 pub returns : need.returns
 returns g c =
     let k = g .P·Performance in
     let v = g .W·Weight in (
       c .loop-e .inv .0,
-      each-all (lawful-kind (g .P·Performance·met)) (lawful-weight (g .W·Weight·met)) (c .args .arm-e .now) (λ t. term v (k .bridge (c .args .a) (c .args .b) (c .args .c) (c .args .d) (t .performance)) (v .product (c .args .weight) (t .weight)) ∷ []) (take (c .args .start .len) (c .args .room .now)) _ (c .loop-e .e-index) (c .loop-e-test .left) (c .loop-e .inv .1),
+      each-all (lawful-kind (g .P·Performance·met)) (lawful-weight (g .W·Weight·met)) (c .args .arm-e .now) (λ t. term (k .bridge (c .args .a) (c .args .b) (c .args .c) (c .args .d) (t .performance)) (v .product (c .args .weight) (t .weight)) ∷ []) (take (c .args .start .len) (c .args .room .now)) _ (c .loop-e .e-index) (c .loop-e-test .left) (c .loop-e .inv .1),
     )
