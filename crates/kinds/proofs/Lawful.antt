@@ -54,8 +54,8 @@ module _
 
   pub lawful-weight : {weights : Weight.Ghosts (T .Denot)} → weight.Met 𝓤 H 𝓜 𝓖 𝓡 γ T weights dict → Weighing weights
   lawful-weight met = record {
-    nothing-is = met .«nothing_passes»;
-    only-nothing = met .«passes_nothing»;
+    nothing-is = met .«test_accepts_nothing»;
+    only-nothing = met .«test_accepts_only_nothing»;
     sum-assoc = met .«sum_associative»;
     sum-comm = met .«sum_commutative»;
     neutral = met .«sum_neutral»;

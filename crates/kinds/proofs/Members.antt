@@ -10,7 +10,7 @@ use Rattle.std.proofs.shelf.Ways.{decides-like, decides-eqb}
 use lib.Arith.{bin-ind}
 use lib.Bits.{bitAnd, bitOr, and-step, or-step, and-shr, or-shr}
 use Rattle.std.proofs.shelf.Bits.{shr-shr}
-use Rattle.kinds.specs.Members.{Member, Within, Union-has, Intersection-has}
+use Rattle.kinds.specs.Members.{Member, Within, UnionHas, IntersectionHas}
 use Rattle.kinds.proofs.Bitwise.{and-half, and-low, or-low, by-digits}
 
 -- a set lies within another exactly where the intersection leaves it whole
@@ -42,10 +42,10 @@ bit-or v w i = ap (λ x. x % 2) (or-shr v w i) ∙ or-low (v / 2 ^ i) (w / 2 ^ i
 bit-and : (v w i : ℕ) → bitAnd v w / 2 ^ i % 2 ≡ min (v / 2 ^ i % 2) (w / 2 ^ i % 2)
 bit-and v w i = ap (λ x. x % 2) (and-shr v w i) ∙ and-low (v / 2 ^ i) (w / 2 ^ i)
 
-pub union-has : Union-has
+pub union-has : UnionHas
 union-has v w i =
     let bit = bit-or v w i in
     (λ m. ⊎-elim inl (λ e. inr (omega arith)) (cases-eq (v / 2 ^ i % 2) 1), ⊎-elim (λ m. omega arith) (λ m. omega arith))
 
-pub intersection-has : Intersection-has
+pub intersection-has : IntersectionHas
 intersection-has v w i = let bit = bit-and v w i in (λ m. (omega arith, omega arith), λ m. omega (arith, m .0, m .1))

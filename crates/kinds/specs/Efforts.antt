@@ -1,4 +1,4 @@
--- Effort: a cost. Of two ways the cheaper is taken; what is needed together is paid together. The top is not to be had.
+-- Effort: a cost. Of two ways the cheaper is taken; what is needed together is paid together. The top says that it cannot be had.
 use mathlib.Core.Bool.{Bool}
 use Prim.Native.Nat.{ℕ, min}
 use native.Mathlib.Omega.{arith}
@@ -20,5 +20,5 @@ effort-sum a b = record { cost = min (a .cost) (b .cost); fits = omega (arith, a
 abbrev pub effort-product : Effort → Effort → Effort
 effort-product a b = record { cost = capped-sum top32 (a .cost) (b .cost); fits = omega arith }
 
-abbrev pub effort-none : Effort → Bool
-effort-none a = eqb (a .cost) top32
+abbrev pub effort-is-nothing : Effort → Bool
+effort-is-nothing a = eqb (a .cost) top32

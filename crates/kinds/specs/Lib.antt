@@ -12,3 +12,4 @@ pub mod Parts
 pub mod Scenarios
 pub mod Efforts
 pub mod Members
+pub mod Declares

@@ -15,12 +15,12 @@ abbrev pub Within : ℕ → ℕ → Type 0
 Within v w = (i : ℕ) → Member v i → Member w i
 
 -- a union has the members of either
-abbrev pub Union-has : Type 0
-Union-has = (v w i : ℕ) → (Member (bitOr v w) i → Member v i ⊎ Member w i) × (Member v i ⊎ Member w i → Member (bitOr v w) i)
+abbrev pub UnionHas : Type 0
+UnionHas = (v w i : ℕ) → (Member (bitOr v w) i → Member v i ⊎ Member w i) × (Member v i ⊎ Member w i → Member (bitOr v w) i)
 
 -- an intersection has the members of both
-abbrev pub Intersection-has : Type 0
-Intersection-has = (v w i : ℕ) → (Member (bitAnd v w) i → Member v i × Member w i) × (Member v i × Member w i → Member (bitAnd v w) i)
+abbrev pub IntersectionHas : Type 0
+IntersectionHas = (v w i : ℕ) → (Member (bitAnd v w) i → Member v i × Member w i) × (Member v i × Member w i → Member (bitAnd v w) i)
 
-abbrev pub Meets-is-within : Type 0
-Meets-is-within = (v w : FaultSet) → Decides (faults-meets v w) (Within (v .classes) (w .classes))
+abbrev pub MeetsIsWithin : Type 0
+MeetsIsWithin = (v w : FaultSet) → Decides (faults-meets v w) (Within (v .classes) (w .classes))

@@ -20,5 +20,5 @@ parts-sum a b = record { count = capped-sum top32 (a .count) (b .count); fits = 
 abbrev pub parts-product : Parts → Parts → Parts
 parts-product a b = record { count = capped-product top32 (a .count) (b .count); fits = omega arith }
 
-abbrev pub parts-none : Parts → Bool
-parts-none a = eqb (a .count) 0
+abbrev pub parts-is-nothing : Parts → Bool
+parts-is-nothing a = eqb (a .count) 0

@@ -20,5 +20,5 @@ scenarios-sum a b = record { members = bitOr (a .members) (b .members); fits = o
 abbrev pub scenarios-product : Scenarios → Scenarios → Scenarios
 scenarios-product a b = record { members = bitAnd (a .members) (b .members); fits = and-lt 32 (a .members) (b .members) (a .fits) (b .fits) }
 
-abbrev pub scenarios-none : Scenarios → Bool
-scenarios-none a = eqb (a .members) 0
+abbrev pub scenarios-is-nothing : Scenarios → Bool
+scenarios-is-nothing a = eqb (a .members) 0

@@ -1,7 +1,7 @@
-// Effort: a cost. The sum is the cheaper of two, the product what both cost; the largest number is not to be had.
+// Effort: a cost. The sum is the cheaper of two, the product what both cost; the largest number says that it cannot be had.
 ghost use mathlib.Core.Path.{_≡_};
 ghost use Rattle.kinds.specs.Holding.{Holds};
-ghost use Rattle.kinds.specs.Efforts.{effort-cost, effort-nothing, effort-sum, effort-product, effort-none};
+ghost use Rattle.kinds.specs.Efforts.{effort-cost, effort-nothing, effort-sum, effort-product, effort-is-nothing};
 use crate::capped::TOP32;
 use crate::capped::cap;
 use crate::values::Effort;
@@ -35,7 +35,7 @@ pub impl Weight for Effort as EffortWeight {
 
     ghost product = { effort-product };
 
-    ghost isNothing = { effort-none };
+    ghost isNothing = { effort-is-nothing };
 
     fn none() -> Effort {
         Effort::new(TOP32)

@@ -1,5 +1,6 @@
 // Kinds of performance and of weight: what they are, and the named ones.
 pub mod capped;
+pub mod declares;
 pub mod delay;
 pub mod effort;
 pub mod fault_set;

@@ -1,7 +1,7 @@
 // Parts: how many of a whole. Sums and products stop at the top.
 ghost use mathlib.Core.Path.{_≡_};
 ghost use Rattle.kinds.specs.Holding.{Holds};
-ghost use Rattle.kinds.specs.Parts.{parts-count, parts-nothing, parts-sum, parts-product, parts-none};
+ghost use Rattle.kinds.specs.Parts.{parts-count, parts-nothing, parts-sum, parts-product, parts-is-nothing};
 use crate::capped::cap;
 use crate::values::Parts;
 use crate::weight::Weight;
@@ -34,7 +34,7 @@ pub impl Weight for Parts as PartsWeight {
 
     ghost product = { parts-product };
 
-    ghost isNothing = { parts-none };
+    ghost isNothing = { parts-is-nothing };
 
     fn none() -> Parts {
         Parts::new(0)

@@ -1,7 +1,7 @@
 // Scenarios: in which of 32 scenarios. The sum is the union, the product the intersection.
 ghost use mathlib.Core.Path.{_≡_};
 ghost use Rattle.kinds.specs.Holding.{Holds};
-ghost use Rattle.kinds.specs.Scenarios.{scenario-members, scenarios-nothing, scenarios-sum, scenarios-product, scenarios-none};
+ghost use Rattle.kinds.specs.Scenarios.{scenario-members, scenarios-nothing, scenarios-sum, scenarios-product, scenarios-is-nothing};
 use crate::values::Scenarios;
 use crate::weight::Weight;
 
@@ -33,7 +33,7 @@ pub impl Weight for Scenarios as ScenariosWeight {
 
     ghost product = { scenarios-product };
 
-    ghost isNothing = { scenarios-none };
+    ghost isNothing = { scenarios-is-nothing };
 
     fn none() -> Scenarios {
         Scenarios::new(0)

@@ -1,15 +1,20 @@
 // Edge values, run.
 use crate::capped::TOP32;
+use crate::declares::order_counts;
 use crate::delay::DelayPerformance;
 use crate::effort::EffortWeight;
+use crate::first_fault::FirstFaultPerformance;
 use crate::flow::FlowPerformance;
 use crate::or_out::OrOutPerformance;
+use crate::pair::PairPerformance;
 use crate::parts::PartsWeight;
 use crate::performance::Performance;
 use crate::values::Delay;
 use crate::values::Effort;
+use crate::values::FirstFault;
 use crate::values::Flow;
 use crate::values::OrOut;
+use crate::values::Pair;
 use crate::values::Parts;
 use crate::weight::Weight;
 use std::test::*;
@@ -59,4 +64,32 @@ fn out_in_every_arm() -> Result<(), Fail> {
     check_eq(shown(OrOut::in_bridge(a, b, c, out, e)), 2).note("arm d")?;
     check_eq(shown(OrOut::in_bridge(a, b, c, d, out)), 9).note("arm e")?;
     check_eq(shown(OrOut::in_bridge(out, out, c, d, e)), TOP32).note("arms a and b")
+}
+
+fn constants<K: Performance>() -> (bool, bool) {
+    (K::SERIES_ORDER_COUNTS, K::PARALLEL_ORDER_COUNTS)
+}
+
+// No law can cite the constants; here they are held against what the methods answer.
+#[test]
+fn constants_say_what_the_methods_say() -> Result<(), Fail> {
+    check_eq(constants::<Flow>(), order_counts::<Flow>())?;
+    check_eq(constants::<FirstFault>(), order_counts::<FirstFault>())?;
+    check_eq(
+        constants::<Pair<Delay, Flow>>(),
+        order_counts::<Pair<Delay, Flow>>(),
+    )?;
+    check_eq(
+        constants::<Pair<Flow, FirstFault>>(),
+        order_counts::<Pair<Flow, FirstFault>>(),
+    )?;
+    check_eq(
+        constants::<Pair<FirstFault, Flow>>(),
+        order_counts::<Pair<FirstFault, Flow>>(),
+    )?;
+    check_eq(constants::<OrOut<Flow>>(), order_counts::<OrOut<Flow>>())?;
+    check_eq(
+        constants::<OrOut<FirstFault>>(),
+        order_counts::<OrOut<FirstFault>>(),
+    )
 }

@@ -1,18 +1,18 @@
 // Theorems about the definitions, each the contract of a function.
-ghost use Rattle.kinds.specs.CapLaws.{Capping-keeps};
+ghost use Rattle.kinds.specs.CapLaws.{CappingKeeps};
 ghost use Rattle.kinds.specs.Delays.{delay-time};
 ghost use Rattle.kinds.specs.Efforts.{effort-cost};
 ghost use Rattle.kinds.specs.FaultSets.{fault-classes};
 ghost use Rattle.kinds.specs.FirstFaults.{fault-number};
 ghost use Rattle.kinds.specs.Flows.{flow-rate};
 ghost use Rattle.kinds.specs.Holding.{Numbers32};
-ghost use Rattle.kinds.specs.Members.{Meets-is-within, Union-has, Intersection-has};
+ghost use Rattle.kinds.specs.Members.{MeetsIsWithin, UnionHas, IntersectionHas};
 ghost use Rattle.kinds.specs.Parts.{parts-count};
 ghost use Rattle.kinds.specs.Scenarios.{scenario-members};
 
 // What capped sums and products keep of the laws of numbers, for any top.
 pub fn capping_keeps_laws() -> u8
-    ensures { λ _. ⌜ Capping-keeps ⌝ }
+    ensures { λ _. ⌜ CappingKeeps ⌝ }
 {
     0
 }
@@ -39,9 +39,9 @@ pub fn weights_hold_32_bits() -> u8
 // Sets bit by bit: what a union and an intersection hold, and that a fault set meets a demand
 // exactly where it has no class outside it.
 pub fn bits_are_members() -> u8
-    ensures union { λ _. ⌜ Union-has ⌝ }
-    ensures intersection { λ _. ⌜ Intersection-has ⌝ }
-    ensures within { λ _. ⌜ Meets-is-within ⌝ }
+    ensures union { λ _. ⌜ UnionHas ⌝ }
+    ensures intersection { λ _. ⌜ IntersectionHas ⌝ }
+    ensures within { λ _. ⌜ MeetsIsWithin ⌝ }
 {
     0
 }

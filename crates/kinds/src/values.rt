@@ -58,7 +58,7 @@ pub struct Scenarios {
     ghost fits: { members < 2 ^ 32 },
 }
 
-// What it costs; the largest number is not to be had.
+// What it costs; the largest number says that it cannot be had.
 #[derive(Clone, Copy, PartialEq, Eq, Debug)]
 pub struct Effort {
     pub(crate) cost: u32,

@@ -11,9 +11,9 @@ pub trait Weight: Copy {
 
     ghost isNothing: { Self → Bool };
 
-    law nothing_passes: { isNothing nothing ≡ true };
+    law test_accepts_nothing: { isNothing nothing ≡ true };
 
-    law passes_nothing: { (a : Self) → isNothing a ≡ true → a ≡ nothing };
+    law test_accepts_only_nothing: { (a : Self) → isNothing a ≡ true → a ≡ nothing };
 
     law sum_associative: { (a b c : Self) → sum (sum a b) c ≡ sum a (sum b c) };
 

@@ -8,7 +8,7 @@ use Rattle.kinds.specs.declared.weight.Weight
 use Rattle.terms.specs.declared.term.Term.{Term}
 use Rattle.terms.specs.Rows.{ifSame, share, weightAt, IsRow, RowOf}
 use Rattle.terms.specs.Combinations.{each}
-use Rattle.terms.specs.Picking.{pickedToB, pickedToC, pickedToD}
+use Rattle.terms.specs.Picking.{fromC, fromD, fromE}
 use Rattle.kinds.proofs.Lawful.{Kind, Weighing}
 use Rattle.terms.proofs.Summing.{sum-append}
 
@@ -41,14 +41,14 @@ module _ {P W : Type 0} {kind : Performance.Ghosts P} {weights : Weight.Ghosts W
   times-nothing : (u v : W) → u ≡ weights .nothing → weights .product u v ≡ weights .nothing
   times-nothing u v e = ap (λ z. weights .product z v) e ∙ w .absorbs v
 
-  pub void-to-D : (a b c d : P) (u : W) (es : List (Term P W)) → u ≡ weights .nothing → Void (pickedToD kind weights a b c d u es)
-  void-to-D a b c d u es e = void-each es _ (λ t. void-one _ (times-nothing u (t .weight) e))
+  pub void-from-E : (a b c d : P) (u : W) (es : List (Term P W)) → u ≡ weights .nothing → Void (fromE kind weights a b c d u es)
+  void-from-E a b c d u es e = void-each es _ (λ t. void-one _ (times-nothing u (t .weight) e))
 
-  pub void-to-C : (a b c : P) (u : W) (ds es : List (Term P W)) → u ≡ weights .nothing → Void (pickedToC kind weights a b c u ds es)
-  void-to-C a b c u ds es e = void-each ds _ (λ t. void-to-D a b c (t .performance) _ es (times-nothing u (t .weight) e))
+  pub void-from-D : (a b c : P) (u : W) (ds es : List (Term P W)) → u ≡ weights .nothing → Void (fromD kind weights a b c u ds es)
+  void-from-D a b c u ds es e = void-each ds _ (λ t. void-from-E a b c (t .performance) _ es (times-nothing u (t .weight) e))
 
-  pub void-to-B : (a b : P) (u : W) (cs ds es : List (Term P W)) → u ≡ weights .nothing → Void (pickedToB kind weights a b u cs ds es)
-  void-to-B a b u cs ds es e = void-each cs _ (λ t. void-to-C a b (t .performance) _ ds es (times-nothing u (t .weight) e))
+  pub void-from-C : (a b : P) (u : W) (cs ds es : List (Term P W)) → u ≡ weights .nothing → Void (fromC kind weights a b u cs ds es)
+  void-from-C a b u cs ds es e = void-each cs _ (λ t. void-from-D a b (t .performance) _ ds es (times-nothing u (t .weight) e))
 
   pub void-adds : (ts r : List (Term P W)) → Void ts → IsRow kind weights r → RowOf kind weights (ts ++ r) r
   void-adds ts r e h = record {

@@ -47,4 +47,4 @@ module _ {P W : Type 0} (kind : Performance.Ghosts P) (weights : Weight.Ghosts W
 
   -- all the combinations of the five arms
   abbrev pub bridges : List (Term P W) → List (Term P W) → List (Term P W) → List (Term P W) → List (Term P W) → List (Term P W)
-  bridges qs bs cs ds es = each qs λ a. each bs λ b. each cs λ c. each ds λ d. each es λ e. bridged a b c d e ∷ []
+  bridges armA armB armC armD armE = each armA λ a. each armB λ b. each armC λ c. each armD λ d. each armE λ e. bridged a b c d e ∷ []

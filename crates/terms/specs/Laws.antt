@@ -34,24 +34,25 @@ module _ {P W : Type 0} (kind : Performance.Ghosts P) (weights : Weight.Ghosts W
       (ts room room′ : Terms) (answer answer′ : Option ℕ) → length room ≡ length room′ →
       Merges kind weights ts room answer → Merges kind weights ts room′ answer′ → answer ≡ answer′
 
-  -- combinations depend on the distributions alone
+  -- the distribution of the combinations depends only on the distributions of the two lists
   abbrev pub CombiningKeeps : Type 0
   CombiningKeeps = (way : Way) (xs xs′ ys ys′ : Terms) → Same xs xs′ → Same ys ys′ → Same (both way xs ys) (both way xs′ ys′)
 
+  -- however three lists are grouped, the distribution is the same
   abbrev pub CombiningAssociates : Type 0
   CombiningAssociates = (way : Way) (xs ys zs : Terms) → Same (both way (both way xs ys) zs) (both way xs (both way ys zs))
 
-  -- where the kind says that order does not count
+  -- and in either order, where the kind says that order does not count
   abbrev pub CombiningCommutes : Type 0
   CombiningCommutes = (way : Way) → ordered kind way ≡ false → (xs ys : Terms) → Same (both way xs ys) (both way ys xs)
 
-  -- a bridge depends on the distributions of its arms alone
+  -- the distribution of a bridge depends only on the distributions of its arms
   abbrev pub BridgingKeeps : Type 0
   BridgingKeeps =
-      (qs qs′ bs bs′ cs cs′ ds ds′ es es′ : Terms) → Same qs qs′ → Same bs bs′ → Same cs cs′ → Same ds ds′ → Same es es′ →
-      Same (bridges kind weights qs bs cs ds es) (bridges kind weights qs′ bs′ cs′ ds′ es′)
+      (a a′ b b′ c c′ d d′ e e′ : Terms) → Same a a′ → Same b b′ → Same c c′ → Same d d′ → Same e e′ →
+      Same (bridges kind weights a b c d e) (bridges kind weights a′ b′ c′ d′ e′)
 
-  -- so do the sums
+  -- sums over a list depend only on its distribution
   abbrev pub SummingKeeps : Type 0
   SummingKeeps =
       (ts us : Terms) → Same ts us →

@@ -1,11 +1,10 @@
 // The row of all the combinations of the five arms of a bridge.
-ghost use mathlib.Core.List.{_++_};
 ghost use Prim.Native.Nat.{_≤_};
 ghost use lib.ListN.{length, take};
 ghost use Rattle.terms.specs.Rows.{IsRow};
-ghost use Rattle.terms.specs.Merging.{Merges, lengthIn};
+ghost use Rattle.terms.specs.Merging.{Merges, MergesOnto, lengthIn};
 ghost use Rattle.terms.specs.Combinations.{bridges};
-ghost use Rattle.terms.specs.Picking.{pickedToA, pickedToB, pickedToC, pickedToD};
+ghost use Rattle.terms.specs.Picking.{fromB, fromC, fromD, fromE};
 use crate::merge::put;
 use crate::term::Filled;
 use crate::term::Term;
@@ -71,7 +70,7 @@ fn pick_b<P: Performance, W: Weight>(
     start: Filled,
 ) -> Option<Filled>
     requires { ⌜ start .len ≤ length (now room) ⌝ ∗ ⌜ IsRow P·Performance W·Weight (take (start .len) (now room)) ⌝ }
-    ensures { λ r. ⌜ Merges P·Performance W·Weight (pickedToA P·Performance W·Weight a weight (now («arm_b» .entry)) (now («arm_c» .entry)) (now («arm_d» .entry)) (now («arm_e» .entry)) ++ take (start .len) (now (room .entry))) (now (room .exit)) (lengthIn r) ⌝ }
+    ensures { λ r. ⌜ MergesOnto P·Performance W·Weight (fromB P·Performance W·Weight a weight (now («arm_b» .entry)) (now («arm_c» .entry)) (now («arm_d» .entry)) (now («arm_e» .entry))) (start .len) (now (room .entry)) (now (room .exit)) (lengthIn r) ⌝ }
 {
     let mut filled = start;
     for b in arm_b {
@@ -104,7 +103,7 @@ fn pick_c<P: Performance, W: Weight>(
     start: Filled,
 ) -> Option<Filled>
     requires { ⌜ start .len ≤ length (now room) ⌝ ∗ ⌜ IsRow P·Performance W·Weight (take (start .len) (now room)) ⌝ }
-    ensures { λ r. ⌜ Merges P·Performance W·Weight (pickedToB P·Performance W·Weight a b weight (now («arm_c» .entry)) (now («arm_d» .entry)) (now («arm_e» .entry)) ++ take (start .len) (now (room .entry))) (now (room .exit)) (lengthIn r) ⌝ }
+    ensures { λ r. ⌜ MergesOnto P·Performance W·Weight (fromC P·Performance W·Weight a b weight (now («arm_c» .entry)) (now («arm_d» .entry)) (now («arm_e» .entry))) (start .len) (now (room .entry)) (now (room .exit)) (lengthIn r) ⌝ }
 {
     if weight.is_nothing() {
         return Some(start);
@@ -140,7 +139,7 @@ fn pick_d<P: Performance, W: Weight>(
     start: Filled,
 ) -> Option<Filled>
     requires { ⌜ start .len ≤ length (now room) ⌝ ∗ ⌜ IsRow P·Performance W·Weight (take (start .len) (now room)) ⌝ }
-    ensures { λ r. ⌜ Merges P·Performance W·Weight (pickedToC P·Performance W·Weight a b c weight (now («arm_d» .entry)) (now («arm_e» .entry)) ++ take (start .len) (now (room .entry))) (now (room .exit)) (lengthIn r) ⌝ }
+    ensures { λ r. ⌜ MergesOnto P·Performance W·Weight (fromD P·Performance W·Weight a b c weight (now («arm_d» .entry)) (now («arm_e» .entry))) (start .len) (now (room .entry)) (now (room .exit)) (lengthIn r) ⌝ }
 {
     if weight.is_nothing() {
         return Some(start);
@@ -176,7 +175,7 @@ fn pick_e<P: Performance, W: Weight>(
     start: Filled,
 ) -> Option<Filled>
     requires { ⌜ start .len ≤ length (now room) ⌝ ∗ ⌜ IsRow P·Performance W·Weight (take (start .len) (now room)) ⌝ }
-    ensures { λ r. ⌜ Merges P·Performance W·Weight (pickedToD P·Performance W·Weight a b c d weight (now («arm_e» .entry)) ++ take (start .len) (now (room .entry))) (now (room .exit)) (lengthIn r) ⌝ }
+    ensures { λ r. ⌜ MergesOnto P·Performance W·Weight (fromE P·Performance W·Weight a b c d weight (now («arm_e» .entry))) (start .len) (now (room .entry)) (now (room .exit)) (lengthIn r) ⌝ }
 {
     if weight.is_nothing() {
         return Some(start);

@@ -1,10 +1,10 @@
 // The row of all the combinations of two lists, in series or in parallel.
 ghost use mathlib.Core.Path.{_≡_};
-ghost use mathlib.Core.List.{[], _∷_, _++_};
+ghost use mathlib.Core.List.{[], _∷_};
 ghost use Prim.Native.Nat.{_≤_};
 ghost use lib.ListN.{length, take};
 ghost use Rattle.terms.specs.Rows.{IsRow};
-ghost use Rattle.terms.specs.Merging.{Merges, lengthIn};
+ghost use Rattle.terms.specs.Merging.{Merges, MergesOnto, lengthIn};
 ghost use Rattle.terms.specs.Combinations.{each, joins, combined, combinations};
 use crate::merge::put;
 use crate::term::Filled;
@@ -29,7 +29,11 @@ pub fn combine<P: Performance, W: Weight>(
 }
 
 // One term of each of two lists, together.
-pub fn pair_up<P: Performance, W: Weight>(way: Way, x: Term<P, W>, y: Term<P, W>) -> Term<P, W>
+pub fn combine_terms<P: Performance, W: Weight>(
+    way: Way,
+    x: Term<P, W>,
+    y: Term<P, W>,
+) -> Term<P, W>
     ensures { λ r. ⌜ r ≡ combined W·Weight (joins P·Performance way) x y ⌝ }
 {
     let performance = match way {
@@ -70,11 +74,11 @@ fn spread<P: Performance, W: Weight>(
     start: Filled,
 ) -> Option<Filled>
     requires { ⌜ start .len ≤ length (now room) ⌝ ∗ ⌜ IsRow P·Performance W·Weight (take (start .len) (now room)) ⌝ }
-    ensures { λ r. ⌜ Merges P·Performance W·Weight (each (now (ys .entry)) (λ y. combined W·Weight (joins P·Performance way) x y ∷ []) ++ take (start .len) (now (room .entry))) (now (room .exit)) (lengthIn r) ⌝ }
+    ensures { λ r. ⌜ MergesOnto P·Performance W·Weight (each (now (ys .entry)) (λ y. combined W·Weight (joins P·Performance way) x y ∷ [])) (start .len) (now (room .entry)) (now (room .exit)) (lengthIn r) ⌝ }
 {
     let mut filled = start;
     for y in ys {
-        match put(room, filled, pair_up(way, x, *y)) {
+        match put(room, filled, combine_terms(way, x, *y)) {
             Some(more) => filled = more,
             None => return None,
         }

@@ -6,7 +6,7 @@ ghost use Prim.Native.Nat.{_≤_};
 ghost use lib.ListN.{length, take};
 ghost use Rattle.std.specs.declared.option.Option.the-variants.{Some};
 ghost use Rattle.terms.specs.Rows.{IsRow};
-ghost use Rattle.terms.specs.Merging.{Merges, Adds, lengthIn};
+ghost use Rattle.terms.specs.Merging.{Merges, Adds, Within, lengthIn};
 ghost use Rattle.terms.specs.Combinations.{term};
 use crate::term::Filled;
 use crate::term::Term;
@@ -27,8 +27,8 @@ pub fn merge<P: Performance, W: Weight>(
     }
 }
 
-// Adds one term to the row in the first `filled.len` places of `room`; None where the row grows longer than the
-// room, or the room is shorter than `filled.len`.
+// Adds one term to the row in the first `filled.len` places of `room`. None where the row grows longer than the
+// room, which then no longer holds it, or where the room is shorter than `filled.len`, and stays as it was.
 pub fn add<P: Performance, W: Weight>(
     room: &mut [Term<P, W>],
     filled: Filled,
@@ -59,15 +59,16 @@ fn merge_into<P: Performance, W: Weight>(
     Some(filled)
 }
 
-// Adds one term: at the last place, at the next, at the one found by halving, or else by going through the row.
-// The first three are guesses that `add_if_like` looks at before it trusts them.
+// Adds one term: where the last one was merged, at the next place, at the one found by halving, or else by going
+// through the row. The first three are guesses, and `add_if_like` looks before it trusts them.
 pub(crate) fn put<P: Performance, W: Weight>(
     room: &mut [Term<P, W>],
     filled: Filled,
     t: Term<P, W>,
 ) -> Option<Filled>
     requires { ⌜ filled .len ≤ length (now room) ⌝ }
-    ensures { λ r. ⌜ (IsRow P·Performance W·Weight (take (filled .len) (now (room .entry))) → Merges P·Performance W·Weight (t ∷ take (filled .len) (now (room .entry))) (now (room .exit)) (lengthIn r)) ⌝ }
+    ensures within { λ r. ⌜ Within (length (now (room .exit))) (lengthIn r) ⌝ }
+    ensures merged { λ r. ⌜ (IsRow P·Performance W·Weight (take (filled .len) (now (room .entry))) → Merges P·Performance W·Weight (t ∷ take (filled .len) (now (room .entry))) (now (room .exit)) (lengthIn r)) ⌝ }
 {
     let len = filled.len;
     let last = filled.last;
@@ -131,7 +132,8 @@ fn insert<P: Performance, W: Weight>(
     t: Term<P, W>,
 ) -> Option<usize>
     requires { ⌜ len ≤ length (now room) ⌝ }
-    ensures { λ r. ⌜ (IsRow P·Performance W·Weight (take len (now (room .entry))) → Merges P·Performance W·Weight (t ∷ take len (now (room .entry))) (now (room .exit)) r) ⌝ }
+    ensures within { λ r. ⌜ Within (length (now (room .exit))) r ⌝ }
+    ensures merged { λ r. ⌜ (IsRow P·Performance W·Weight (take len (now (room .entry))) → Merges P·Performance W·Weight (t ∷ take len (now (room .entry))) (now (room .exit)) r) ⌝ }
 {
     if weighs_nothing(t) {
         return Some(len);

@@ -22,7 +22,7 @@ use terms::term::Term;
 use terms::term::Way;
 
 mod binary;
-mod examples;
+pub mod examples;
 mod service;
 
 type State = Term<Flow, Parts>;
@@ -44,10 +44,7 @@ fn weighed<P: Copy>(performance: P, count: u32) -> Term<P, Parts>
 fn state(rate: u32, count: u32) -> State
     ensures { λ r. ⌜ Holds flow-rate rate (r .performance) ⌝ ∗ ⌜ Holds parts-count count (r .weight) ⌝ }
 {
-    Term {
-        performance: Flow::new(rate),
-        weight: Parts::new(count),
-    }
+    weighed(Flow::new(rate), count)
 }
 
 // A term as text.

@@ -20,11 +20,11 @@ loop-y-again g c =
     let k = g .P·Performance in
     let v = g .W·Weight in
     let row = take (c .loop-y .filled .len) (c .loop-y .room) in
-    let now = c .in-Some .ensures tt (c .loop-y .inv .1 .row) in
+    let now = c .in-Some .ensures tt .merged (c .loop-y .inv .1 .row) in
     let after = take (c .in-Some .more .len) (c .put .last .room) in (
       now .0,
       each-more (lawful-kind (g .P·Performance·met)) (lawful-weight (g .W·Weight·met)) (c .args .ys .now) (λ y. combined v (joins k (c .args .way)) (c .args .x) y ∷ []) (take (c .args .start .len) (c .args .room .now)) row (c .loop-y .y-index) (c .y-item .result) (c .loop-y-test .taken) (c .y-item .is) (c .loop-y .inv .1 .same) after
-          (subst (λ t. RowOf k v (t ∷ row) after) (c .pair-up .ensures) (now .1)),
+          (subst (λ t. RowOf k v (t ∷ row) after) (c .combine-terms .ensures) (now .1)),
     )
 
 pub returns-in-None : need.returns-in-None
@@ -33,7 +33,7 @@ returns-in-None g c =
     let v = g .W·Weight in
     let row = take (c .loop-y .filled .len) (c .loop-y .room) in
     each-refused (lawful-kind (g .P·Performance·met)) (lawful-weight (g .W·Weight·met)) (c .args .ys .now) (λ y. combined v (joins k (c .args .way)) (c .args .x) y ∷ []) (take (c .args .start .len) (c .args .room .now)) row (c .loop-y .y-index) (c .y-item .result) (c .loop-y-test .taken) (c .y-item .is) (c .loop-y .inv .1 .same) (c .put .last .room)
-    (subst (λ t. Merges k v (t ∷ row) (c .put .last .room) None) (c .pair-up .ensures) (c .in-None .ensures tt (c .loop-y .inv .1 .row)))
+    (subst (λ t. Merges k v (t ∷ row) (c .put .last .room) None) (c .combine-terms .ensures) (c .in-None .ensures tt .merged (c .loop-y .inv .1 .row)))
 
 pub returns : need.returns
 returns g c = (

@@ -17,7 +17,7 @@ put-requires g c κs = c .loop-t .inv .0
 
 pub loop-t-again : need.loop-t-again
 loop-t-again g c =
-    let now = c .in-Some .ensures tt (c .loop-t .inv .1 .row) in (
+    let now = c .in-Some .ensures tt .merged (c .loop-t .inv .1 .row) in (
       now .0,
       each-more (lawful-kind (g .P·Performance·met)) (lawful-weight (g .W·Weight·met)) (c .args .terms .now) (λ t. t ∷ []) [] _ (c .loop-t .t-index) (c .t-item .result) (c .loop-t-test .taken) (c .t-item .is) (c .loop-t .inv .1 .same) _ (now .1),
     )
@@ -26,7 +26,7 @@ pub returns-in-None : need.returns-in-None
 returns-in-None g c =
     let ts = c .args .terms .now in
     subst (λ z. Merges (g .P·Performance) (g .W·Weight) z (c .put .last .room) None) (append-nil _ ∙ each-single ts)
-    (each-refused (lawful-kind (g .P·Performance·met)) (lawful-weight (g .W·Weight·met)) ts (λ t. t ∷ []) [] _ (c .loop-t .t-index) (c .t-item .result) (c .loop-t-test .taken) (c .t-item .is) (c .loop-t .inv .1 .same) _ (c .in-None .ensures tt (c .loop-t .inv .1 .row)))
+    (each-refused (lawful-kind (g .P·Performance·met)) (lawful-weight (g .W·Weight·met)) ts (λ t. t ∷ []) [] _ (c .loop-t .t-index) (c .t-item .result) (c .loop-t-test .taken) (c .t-item .is) (c .loop-t .inv .1 .same) _ (c .in-None .ensures tt .merged (c .loop-t .inv .1 .row)))
 
 pub returns : need.returns
 returns g c =

@@ -7,8 +7,8 @@ use Rattle.kinds.proofs.Caps.{sum-assoc, sum-comm, sum-min, sum-top}
 use Rattle.kinds.proofs.Same.{effort-same}
 use Rattle.kinds.proofs.effort.EffortWeight.the-impl.Needs as need
 
-pub passes-nothing-law : need.passes-nothing-law
-passes-nothing-law a h = effort-same _ _ (grind (arith, tells))
+pub test-accepts-only-nothing-law : need.test-accepts-only-nothing-law
+test-accepts-only-nothing-law a h = effort-same _ _ (grind (arith, tells))
 
 pub sum-associative-law : need.sum-associative-law
 sum-associative-law a b c = effort-same _ _ (omega arith)

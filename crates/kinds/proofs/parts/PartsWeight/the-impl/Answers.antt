@@ -1,8 +1,8 @@
 use Rattle.kinds.proofs.PartsLaws.{parts-laws}
 use Rattle.kinds.proofs.parts.PartsWeight.the-impl.Needs as need
 
-pub passes-nothing-law : need.passes-nothing-law
-passes-nothing-law = parts-laws .only-nothing
+pub test-accepts-only-nothing-law : need.test-accepts-only-nothing-law
+test-accepts-only-nothing-law = parts-laws .only-nothing
 
 pub sum-associative-law : need.sum-associative-law
 sum-associative-law = parts-laws .sum-assoc

@@ -1,8 +1,8 @@
 use Rattle.kinds.proofs.ScenariosLaws.{scenarios-laws}
 use Rattle.kinds.proofs.scenarios.ScenariosWeight.the-impl.Needs as need
 
-pub passes-nothing-law : need.passes-nothing-law
-passes-nothing-law = scenarios-laws .only-nothing
+pub test-accepts-only-nothing-law : need.test-accepts-only-nothing-law
+test-accepts-only-nothing-law = scenarios-laws .only-nothing
 
 pub sum-associative-law : need.sum-associative-law
 sum-associative-law = scenarios-laws .sum-assoc
