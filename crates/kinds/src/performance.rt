@@ -24,9 +24,9 @@ pub trait Performance: Copy {
     // a value held against a demand
     ghost meets: { Self → Self → Bool };
 
-    ghost seriesOrdered: { Bool };
+    ghost series_ordered: { Bool };
 
-    ghost parallelOrdered: { Bool };
+    ghost parallel_ordered: { Bool };
 
     fn series_ordered() -> bool
         ensures { result ≡ series_ordered };

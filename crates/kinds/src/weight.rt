@@ -8,7 +8,7 @@ pub trait Weight: Copy {
 
     ghost product: { Self → Self → Self };
 
-    ghost isNothing: { Self → Bool };
+    ghost is_nothing: { Self → Bool };
 
     fn none() -> Self
         ensures { result ≡ nothing };
