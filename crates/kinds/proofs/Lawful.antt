@@ -1,6 +1,7 @@
 -- The laws of a kind and of a weight, each as one record, packed from what the traits' bounds give.
 use Rattle.std.proofs.Common.{◌≡◌, Bool, true, false, Less, Equal}
 use Rattle.std.specs.Ordering.{ordering_reverse}
+use Rattle.std.specs.declared.clone.Clone
 use Rattle.kinds.specs.declared.performance.Performance
 use Rattle.kinds.specs.declared.weight.Weight
 use Rattle.kinds.specs.contracts.performance.Performance.TheBound as performance
@@ -37,8 +38,9 @@ pub record Weighing {W : Type 0} (weights : Weight.Ghosts W) : Type 0 where
 
 module _
     {M : Type 1} {𝓤 : Ura.Ura M} {𝓛 : Logic 𝓤} {𝓜 : Model.Model 𝓤 𝓛.H}
-    {𝓡 : Running.Running 𝓤 𝓛.H 𝓜} {γ : Routine.Env} {T : RattleType.RattleType} {dict : Syntax.Dict} where
-  pub lawful_kind : {kind : Performance.Ghosts T.Denot} → performance.Met 𝓛 𝓜 𝓡 γ T kind dict → Kind kind
+    {𝓡 : Running.Running 𝓤 𝓛.H 𝓜} {γ : Routine.Env} {T : RattleType.RattleType} {dict : Syntax.Dict}
+    {copied : Clone.Ghosts T.Denot} {copy : Syntax.Dict} where
+  pub lawful_kind : {kind : Performance.Ghosts T.Denot} → performance.Met 𝓛 𝓜 𝓡 γ T kind dict copied copy → Kind kind
   lawful_kind met = record {
     same_itself = met.identical_same;
     same_only = met.same_identical;
@@ -50,7 +52,7 @@ module _
     parallel_comm = met.parallel_commutative;
   }
 
-  pub lawful_weight : {weights : Weight.Ghosts T.Denot} → weight.Met 𝓛 𝓜 𝓡 γ T weights dict → Weighing weights
+  pub lawful_weight : {weights : Weight.Ghosts T.Denot} → weight.Met 𝓛 𝓜 𝓡 γ T weights dict copied copy → Weighing weights
   lawful_weight met = record {
     nothing_is = met.test_accepts_nothing;
     only_nothing = met.test_accepts_only_nothing;

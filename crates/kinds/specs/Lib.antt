@@ -1,4 +1,5 @@
 pub mod Capped
+pub mod Fits
 pub mod CapLaws
 pub mod Holding
 pub mod Orders

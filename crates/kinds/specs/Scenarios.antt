@@ -1,15 +1,15 @@
 -- Scenarios: a set of them, bit i for scenario i.
 use Rattle.std.specs.Prelude.{ℕ, Bool, ◌==◌, bit_and, bit_or}
-use Rattle.std.proofs.Common.{arith}
 use Rattle.std.specs.Int.Bits.{and_lt}
 use Rattle.std.proofs.lemmas.Nat.{or_lt}
+use Rattle.kinds.specs.Fits.{zero_fits}
 use Rattle.kinds.specs.declared.values.Scenarios.{Scenarios}
 
 abbrev pub scenario_members : Scenarios → ℕ
 scenario_members v = v.members
 
 abbrev pub scenarios_nothing : Scenarios
-scenarios_nothing = record { members = 0; fits = omega arith }
+scenarios_nothing = record { members = 0; fits = zero_fits }
 
 -- the union
 abbrev pub scenarios_sum : Scenarios → Scenarios → Scenarios

@@ -9,7 +9,7 @@ use crate::performance::Performance;
 
 // What a kind declares.
 pub fn order_counts<K: Performance>() -> (bool, bool)
-    ensures { result ≡ (series_ordered, parallel_ordered) }
+    ensures { result ≡ (K.series_ordered, K.parallel_ordered) }
 {
     (K::series_ordered(), K::parallel_ordered())
 }
@@ -23,8 +23,9 @@ pub fn named_kinds_declare() -> u8
 
 // What pairs and kinds with out declare.
 pub fn composed_kinds_declare<A: Performance, B: Performance>() -> u8
-    ensures pair { (d e : Dict) → DeclaresEither (pair_kind A.row B.row A.Performance d B.Performance e) A.Performance B.Performance }
-    ensures or_out { (d : Dict) → DeclaresAs (or_out_kind A.row A.Performance d) A.Performance }
+    ensures pair { (d e d' e' : Dict) →
+        DeclaresEither (pair_kind A.row B.row A.Performance d ⟦<A as Clone>⟧ e B.Performance d' ⟦<B as Clone>⟧ e') A.Performance B.Performance }
+    ensures or_out { (d e : Dict) → DeclaresAs (or_out_kind A.row A.Performance d ⟦<A as Clone>⟧ e) A.Performance }
 {
     0
 }

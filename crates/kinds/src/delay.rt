@@ -2,11 +2,11 @@
 ghost use Rattle.std.specs.Prelude.{◌≡◌, false};
 ghost use Rattle.kinds.specs.Holding.{Holds};
 ghost use Rattle.kinds.specs.Delays.{delay_time, delay_compared, delay_series, delay_parallel, delay_bridge, delay_meets};
-ghost use Rattle.kinds.specs.Numeric.{numeric_equal};
 ghost use Rattle.kinds.specs.Same.{delay_same};
 ghost use Rattle.kinds.specs.Capped.{top32};
 ghost use Rattle.kinds.specs.Caps.{sum_assoc, sum_comm};
-ghost use Rattle.std.proofs.Common.{arith, rules};
+ghost use Rattle.kinds.specs.Numeric.{numeric_equal, numeric_itself, numeric_swapped, numeric_less, min_assoc};
+ghost use Rattle.std.proofs.Math.Nat.{min_comm};
 
 use crate::capped::{TOP32, cap, least_of_four};
 use crate::performance::Performance;
@@ -55,19 +55,19 @@ impl Performance for Delay {
 
     ghost same_identical = { λ a b h. delay_same a b (numeric_equal a.time b.time h) };
 
-    ghost identical_same = { first_of (Prim.search rules, Prim.grind (arith, Self.row.coded.inj)) };
+    ghost identical_same = { λ a. numeric_itself a.time };
 
-    ghost swapped = { first_of (Prim.search rules, Prim.grind (arith, Self.row.coded.inj)) };
+    ghost swapped = { λ a b. numeric_swapped a.time b.time };
 
-    ghost less_transitive = { first_of (Prim.search rules, Prim.grind (arith, Self.row.coded.inj)) };
+    ghost less_transitive = { λ a b c. numeric_less a.time b.time c.time };
 
     ghost series_associative = { λ a b c. delay_same _ _ (sum_assoc top32 a.time b.time c.time) };
 
-    ghost parallel_associative = { λ a b c. delay_same _ _ (omega arith) };
+    ghost parallel_associative = { λ a b c. delay_same _ _ (min_assoc a.time b.time c.time) };
 
     ghost series_commutative = { λ e a b. delay_same _ _ (sum_comm top32 a.time b.time) };
 
-    ghost parallel_commutative = { λ e a b. delay_same _ _ (omega arith) };
+    ghost parallel_commutative = { λ e a b. delay_same _ _ (min_comm a.time b.time) };
 
     fn series_ordered() -> bool {
         Self::SERIES_ORDER_COUNTS

@@ -1,13 +1,16 @@
 // Effort: a cost. The sum is the cheaper of two, the product what both cost; the largest number says that it cannot be had.
 ghost use Rattle.std.specs.Prelude.{◌≡◌};
-ghost use Rattle.std.proofs.Common.{ap, arith, rules};
 ghost use Rattle.kinds.specs.Holding.{Holds};
 ghost use Rattle.kinds.specs.Efforts.{effort_cost, effort_nothing, effort_sum, effort_product, effort_is_nothing};
-ghost use Rattle.std.proofs.lemmas.Bool.Decides.{nat_tests};
 ghost use Rattle.kinds.specs.Same.{effort_same};
 ghost use Rattle.kinds.specs.declared.values.Effort.{Effort};
 ghost use Rattle.kinds.specs.Capped.{top32};
-ghost use Rattle.kinds.specs.Caps.{sum_assoc, sum_comm, sum_min, sum_top};
+ghost use Rattle.kinds.specs.Caps.{sum_assoc, sum_comm, sum_min, sum_top, min_top, min_is_top};
+ghost use Rattle.kinds.specs.Fits.{fits_below};
+ghost use Rattle.kinds.specs.Numeric.{min_assoc};
+ghost use Rattle.std.proofs.Common.{ap, refl};
+ghost use Rattle.std.proofs.lemmas.Bool.{eqb-true};
+ghost use Rattle.std.proofs.Math.Nat.{min_comm};
 
 use crate::capped::{TOP32, cap};
 use crate::values::Effort;
@@ -43,19 +46,19 @@ impl Weight for Effort {
 
     ghost is_nothing = { effort_is_nothing };
 
-    ghost test_accepts_nothing = { first_of (Prim.search rules, Prim.grind (arith, Self.row.coded.inj)) };
+    ghost test_accepts_nothing = { refl };
 
-    ghost test_accepts_only_nothing = { λ a h. effort_same _ _ (Prim.grind (arith, nat_tests)) };
+    ghost test_accepts_only_nothing = { λ a h. effort_same _ _ (eqb-true a.cost top32 h) };
 
-    ghost sum_associative = { λ a b c. effort_same _ _ (omega arith) };
+    ghost sum_associative = { λ a b c. effort_same _ _ (min_assoc a.cost b.cost c.cost) };
 
-    ghost sum_commutative = { λ a b. effort_same _ _ (omega arith) };
+    ghost sum_commutative = { λ a b. effort_same _ _ (min_comm a.cost b.cost) };
 
-    ghost sum_neutral = { λ a. effort_same _ _ (omega (arith, a.fits)) };
+    ghost sum_neutral = { λ a. effort_same _ _ (min_top top32 a.cost (fits_below a.cost a.fits)) };
 
     ghost sum_none = { λ a b h.
-        let e = ap (λ (x : Effort). x.cost) h in
-        (effort_same _ _ (omega (arith, a.fits, b.fits)), effort_same _ _ (omega (arith, a.fits, b.fits))) };
+        let e = min_is_top top32 a.cost b.cost (fits_below a.cost a.fits) (fits_below b.cost b.fits) (ap (λ (x : Effort). x.cost) h) in
+        (effort_same _ _ e.0, effort_same _ _ e.1) };
 
     ghost product_associative = { λ a b c. effort_same _ _ (sum_assoc top32 a.cost b.cost c.cost) };
 

@@ -2,11 +2,10 @@
 ghost use Rattle.std.specs.Prelude.{◌≡◌, false};
 ghost use Rattle.kinds.specs.Holding.{Holds};
 ghost use Rattle.kinds.specs.FaultSets.{fault_classes, faults_compared, faults_series, faults_parallel, faults_bridge, faults_meets};
-ghost use Rattle.kinds.specs.Numeric.{numeric_equal};
 ghost use Rattle.kinds.specs.Same.{faults_same};
 ghost use Rattle.kinds.specs.Bitwise.{or_assoc, and_assoc};
 ghost use Rattle.std.proofs.lemmas.Nat.{or_comm, and_comm};
-ghost use Rattle.std.proofs.Common.{rules, arith};
+ghost use Rattle.kinds.specs.Numeric.{numeric_equal, numeric_itself, numeric_swapped, numeric_less};
 
 use crate::performance::Performance;
 use crate::values::FaultSet;
@@ -54,11 +53,11 @@ impl Performance for FaultSet {
 
     ghost same_identical = { λ a b h. faults_same a b (numeric_equal a.classes b.classes h) };
 
-    ghost identical_same = { first_of (Prim.search rules, Prim.grind (arith, Self.row.coded.inj)) };
+    ghost identical_same = { λ a. numeric_itself a.classes };
 
-    ghost swapped = { first_of (Prim.search rules, Prim.grind (arith, Self.row.coded.inj)) };
+    ghost swapped = { λ a b. numeric_swapped a.classes b.classes };
 
-    ghost less_transitive = { first_of (Prim.search rules, Prim.grind (arith, Self.row.coded.inj)) };
+    ghost less_transitive = { λ a b c. numeric_less a.classes b.classes c.classes };
 
     ghost series_associative = { λ a b c. faults_same _ _ (or_assoc a.classes b.classes c.classes) };
 

@@ -2,9 +2,9 @@
 ghost use Rattle.std.specs.Prelude.{◌≡◌, true};
 ghost use Rattle.kinds.specs.Holding.{Holds};
 ghost use Rattle.kinds.specs.FirstFaults.{fault_number, first_compared, first_series, first_parallel, first_bridge, first_meets};
-ghost use Rattle.kinds.specs.Numeric.{numeric_equal};
 ghost use Rattle.kinds.specs.Same.{first_same};
-ghost use Rattle.std.proofs.Common.{rules, arith};
+ghost use Rattle.kinds.specs.Numeric.{numeric_equal, numeric_itself, numeric_swapped, numeric_less};
+ghost use Rattle.std.proofs.Common.{rules};
 
 use crate::performance::Performance;
 use crate::values::FirstFault;
@@ -52,19 +52,19 @@ impl Performance for FirstFault {
 
     ghost same_identical = { λ a b h. first_same a b (numeric_equal a.fault b.fault h) };
 
-    ghost identical_same = { first_of (Prim.search rules, Prim.grind (arith, Self.row.coded.inj)) };
+    ghost identical_same = { λ a. numeric_itself a.fault };
 
-    ghost swapped = { first_of (Prim.search rules, Prim.grind (arith, Self.row.coded.inj)) };
+    ghost swapped = { λ a b. numeric_swapped a.fault b.fault };
 
-    ghost less_transitive = { first_of (Prim.search rules, Prim.grind (arith, Self.row.coded.inj)) };
+    ghost less_transitive = { λ a b c. numeric_less a.fault b.fault c.fault };
 
-    ghost series_associative = { first_of (Prim.search rules, Prim.grind (arith, Self.row.coded.inj)) };
+    ghost series_associative = { Prim.search rules };
 
-    ghost parallel_associative = { first_of (Prim.search rules, Prim.grind (arith, Self.row.coded.inj)) };
+    ghost parallel_associative = { Prim.search rules };
 
-    ghost series_commutative = { first_of (Prim.search rules, Prim.grind (arith, Self.row.coded.inj)) };
+    ghost series_commutative = { Prim.search rules };
 
-    ghost parallel_commutative = { first_of (Prim.search rules, Prim.grind (arith, Self.row.coded.inj)) };
+    ghost parallel_commutative = { Prim.search rules };
 
     fn series_ordered() -> bool {
         Self::SERIES_ORDER_COUNTS

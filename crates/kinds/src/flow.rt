@@ -2,7 +2,11 @@
 ghost use Rattle.std.specs.Prelude.{◌≡◌, false};
 ghost use Rattle.kinds.specs.Holding.{Holds};
 ghost use Rattle.kinds.specs.Flows.{flow_rate, flow_compared, flow_series, flow_parallel, flow_bridge, flow_meets};
-ghost use Rattle.std.proofs.Common.{rules, arith};
+ghost use Rattle.kinds.specs.Capped.{top32};
+ghost use Rattle.kinds.specs.Caps.{sum_assoc, sum_comm};
+ghost use Rattle.kinds.specs.Numeric.{numeric_equal, numeric_itself, numeric_swapped, numeric_less, min_assoc};
+ghost use Rattle.kinds.specs.Same.{flow_same};
+ghost use Rattle.std.proofs.Math.Nat.{min_comm};
 
 use crate::capped::{cap, least_of_four};
 use crate::performance::Performance;
@@ -49,21 +53,21 @@ impl Performance for Flow {
 
     ghost parallel_ordered = { false };
 
-    ghost same_identical = { first_of (Prim.search rules, Prim.grind (arith, Self.row.coded.inj)) };
+    ghost same_identical = { λ a b h. flow_same a b (numeric_equal a.rate b.rate h) };
 
-    ghost identical_same = { first_of (Prim.search rules, Prim.grind (arith, Self.row.coded.inj)) };
+    ghost identical_same = { λ a. numeric_itself a.rate };
 
-    ghost swapped = { first_of (Prim.search rules, Prim.grind (arith, Self.row.coded.inj)) };
+    ghost swapped = { λ a b. numeric_swapped a.rate b.rate };
 
-    ghost less_transitive = { first_of (Prim.search rules, Prim.grind (arith, Self.row.coded.inj)) };
+    ghost less_transitive = { λ a b c. numeric_less a.rate b.rate c.rate };
 
-    ghost series_associative = { first_of (Prim.search rules, Prim.grind (arith, Self.row.coded.inj)) };
+    ghost series_associative = { λ a b c. flow_same _ _ (min_assoc a.rate b.rate c.rate) };
 
-    ghost parallel_associative = { first_of (Prim.search rules, Prim.grind (arith, Self.row.coded.inj)) };
+    ghost parallel_associative = { λ a b c. flow_same _ _ (sum_assoc top32 a.rate b.rate c.rate) };
 
-    ghost series_commutative = { first_of (Prim.search rules, Prim.grind (arith, Self.row.coded.inj)) };
+    ghost series_commutative = { λ e a b. flow_same _ _ (min_comm a.rate b.rate) };
 
-    ghost parallel_commutative = { first_of (Prim.search rules, Prim.grind (arith, Self.row.coded.inj)) };
+    ghost parallel_commutative = { λ e a b. flow_same _ _ (sum_comm top32 a.rate b.rate) };
 
     fn series_ordered() -> bool {
         Self::SERIES_ORDER_COUNTS

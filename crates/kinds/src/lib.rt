@@ -1,4 +1,6 @@
 // Kinds of performance and of weight: what they are, and the named ones.
+#![tactic(auto)]
+
 pub mod capped;
 pub mod declares;
 pub mod delay;

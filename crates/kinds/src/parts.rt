@@ -2,7 +2,13 @@
 ghost use Rattle.std.specs.Prelude.{◌≡◌};
 ghost use Rattle.kinds.specs.Holding.{Holds};
 ghost use Rattle.kinds.specs.Parts.{parts_count, parts_nothing, parts_sum, parts_product, parts_is_nothing};
-ghost use Rattle.std.proofs.Common.{rules, arith};
+ghost use Rattle.kinds.specs.Capped.{top32};
+ghost use Rattle.kinds.specs.Caps.{sum_assoc, sum_comm, sum_zero, sum_none_both, product_assoc, product_comm, product_sum, product_zero};
+ghost use Rattle.kinds.specs.Fits.{fits_below};
+ghost use Rattle.kinds.specs.Same.{parts_same};
+ghost use Rattle.kinds.specs.declared.values.Parts.{Parts};
+ghost use Rattle.std.proofs.Common.{ap, refl};
+ghost use Rattle.std.proofs.lemmas.Bool.{eqb-true};
 
 use crate::capped::cap;
 use crate::values::Parts;
@@ -38,25 +44,27 @@ impl Weight for Parts {
 
     ghost is_nothing = { parts_is_nothing };
 
-    ghost test_accepts_nothing = { first_of (Prim.search rules, Prim.grind (arith, Self.row.coded.inj)) };
+    ghost test_accepts_nothing = { refl };
 
-    ghost test_accepts_only_nothing = { first_of (Prim.search rules, Prim.grind (arith, Self.row.coded.inj)) };
+    ghost test_accepts_only_nothing = { λ a h. parts_same _ _ (eqb-true a.count 0 h) };
 
-    ghost sum_associative = { first_of (Prim.search rules, Prim.grind (arith, Self.row.coded.inj)) };
+    ghost sum_associative = { λ a b c. parts_same _ _ (sum_assoc top32 a.count b.count c.count) };
 
-    ghost sum_commutative = { first_of (Prim.search rules, Prim.grind (arith, Self.row.coded.inj)) };
+    ghost sum_commutative = { λ a b. parts_same _ _ (sum_comm top32 a.count b.count) };
 
-    ghost sum_neutral = { first_of (Prim.search rules, Prim.grind (arith, Self.row.coded.inj)) };
+    ghost sum_neutral = { λ a. parts_same _ _ (sum_zero top32 a.count (fits_below a.count a.fits)) };
 
-    ghost sum_none = { first_of (Prim.search rules, Prim.grind (arith, Self.row.coded.inj)) };
+    ghost sum_none = { λ a b h.
+        let e = sum_none_both top32 a.count b.count (fits_below a.count a.fits) (fits_below b.count b.fits) (ap (λ (x : Parts). x.count) h) in
+        (parts_same _ _ e.0, parts_same _ _ e.1) };
 
-    ghost product_associative = { first_of (Prim.search rules, Prim.grind (arith, Self.row.coded.inj)) };
+    ghost product_associative = { λ a b c. parts_same _ _ (product_assoc top32 a.count b.count c.count) };
 
-    ghost product_commutative = { first_of (Prim.search rules, Prim.grind (arith, Self.row.coded.inj)) };
+    ghost product_commutative = { λ a b. parts_same _ _ (product_comm top32 a.count b.count) };
 
-    ghost product_distributes = { first_of (Prim.search rules, Prim.grind (arith, Self.row.coded.inj)) };
+    ghost product_distributes = { λ a b c. parts_same _ _ (product_sum top32 a.count b.count c.count) };
 
-    ghost product_nothing = { first_of (Prim.search rules, Prim.grind (arith, Self.row.coded.inj)) };
+    ghost product_nothing = { λ a. parts_same _ _ (product_zero top32 a.count) };
 
     fn none() -> Parts {
         Parts::new(0)
