@@ -1,4 +1,6 @@
 // Terms, the rows that lists of terms have, and the rows of combinations.
+#![tactic(auto)]
+
 pub mod bridge;
 pub mod combine;
 pub mod drawings;

@@ -112,7 +112,7 @@ fn add_if_like<P: Performance, W: Weight>(
 
 // A term with more weight.
 fn grown<P: Performance, W: Weight>(t: Term<P, W>, more: W) -> Term<P, W>
-    ensures { result ≡ term t.performance (sum t.weight more) }
+    ensures { result ≡ term t.performance (W.sum t.weight more) }
 {
     Term {
         performance: t.performance,
@@ -157,7 +157,7 @@ fn insert<P: Performance, W: Weight>(
 
 // A term of no weight stands in no row.
 fn weighs_nothing<P: Performance, W: Weight>(t: Term<P, W>) -> bool
-    ensures { result ≡ is_nothing t.weight }
+    ensures { result ≡ W.is_nothing t.weight }
 {
     t.weight.is_nothing()
 }

@@ -8,4 +8,4 @@ invariant-loop-a g l =
     let k = g.P.Performance in
     let v = g.W.Weight in
     (l.filled.len ≤ length l.room)
-    × RowOf k v (bridges k v (take l.a-index l.arm-a) l.arm-b l.arm-c l.arm-d l.arm-e ++ []) (take l.filled.len l.room)
+    × RowOf k v (bridges k v (take l.a-index l.arm_a) l.arm_b l.arm_c l.arm_d l.arm_e ++ []) (take l.filled.len l.room)

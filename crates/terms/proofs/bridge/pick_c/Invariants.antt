@@ -8,4 +8,4 @@ invariant-loop-c g l =
     let k = g.P.Performance in
     let v = g.W.Weight in
     (l.filled.len ≤ length l.room)
-    × RowOf k v (from_c k v l.a l.b l.weight (take l.c-index l.arm-c) l.arm-d l.arm-e ++ take l.initial.filled.len l.initial.room) (take l.filled.len l.room)
+    × RowOf k v (from_c k v l.a l.b l.weight (take l.c-index l.arm_c) l.arm_d l.arm_e ++ take l.initial.filled.len l.initial.room) (take l.filled.len l.room)

@@ -8,4 +8,4 @@ invariant-loop-e g l =
     let k = g.P.Performance in
     let v = g.W.Weight in
     (l.filled.len ≤ length l.room)
-    × RowOf k v (from_e k v l.a l.b l.c l.d l.weight (take l.e-index l.arm-e) ++ take l.initial.filled.len l.initial.room) (take l.filled.len l.room)
+    × RowOf k v (from_e k v l.a l.b l.c l.d l.weight (take l.e-index l.arm_e) ++ take l.initial.filled.len l.initial.room) (take l.filled.len l.room)

@@ -21,7 +21,7 @@ loop-y-preserved g c =
     let after = take c.in-Some.more.len c.put.new.room in (
       now.0,
       each_more (lawful_kind g.met.P.Performance) (lawful_weight g.met.W.Weight) c.args.ys.now (λ y. combined v (joins k c.args.way) c.args.x y ∷ []) (take c.args.start.len c.args.room.now) row c.loop-y.y-index c.y-item.result c.loop-y-test.true c.y-item.is c.loop-y.invariant.1.same after
-          (subst (λ t. RowOf k v (t ∷ row) after) c.combine-terms.ensures now.1),
+          (subst (λ t. RowOf k v (t ∷ row) after) c.combine_terms.ensures now.1),
     )
 
 pub returns-in-None : goal.returns-in-None
@@ -30,7 +30,7 @@ returns-in-None g c =
     let v = g.W.Weight in
     let row = take c.loop-y.filled.len c.loop-y.room in
     each_refused (lawful_kind g.met.P.Performance) (lawful_weight g.met.W.Weight) c.args.ys.now (λ y. combined v (joins k c.args.way) c.args.x y ∷ []) (take c.args.start.len c.args.room.now) row c.loop-y.y-index c.y-item.result c.loop-y-test.true c.y-item.is c.loop-y.invariant.1.same c.put.new.room
-    (subst (λ t. Merges k v (t ∷ row) c.put.new.room None) c.combine-terms.ensures (c.in-None.ensures.merged c.loop-y.invariant.1.row))
+    (subst (λ t. Merges k v (t ∷ row) c.put.new.room None) c.combine_terms.ensures (c.in-None.ensures.merged c.loop-y.invariant.1.row))
 
 pub returns : goal.returns
 returns g c = (

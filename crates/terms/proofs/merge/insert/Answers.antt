@@ -6,10 +6,10 @@ use Rattle.terms.proofs.Passing.{Passed, pass_less, pass_greater, pass_equal, pa
 use Rattle.terms.proofs.merge.insert.Goals as goal
 use Rattle.terms.proofs.merge.insert.Goals.{in-Less, in-Greater}
 
-pub returns-then-weighs-nothing : goal.returns-then-weighs-nothing
-returns-then-weighs-nothing g c = record {
+pub returns-then-weighs_nothing : goal.returns-then-weighs_nothing
+returns-then-weighs_nothing g c = record {
   within = c.requires;
-  merged = λ h. (c.requires, nothing_row (lawful_kind g.met.P.Performance) (lawful_weight g.met.W.Weight) _ _ (sym c.if-weighs-nothing.ensures) h);
+  merged = λ h. (c.requires, nothing_row (lawful_kind g.met.P.Performance) (lawful_weight g.met.W.Weight) _ _ (sym c.if-weighs_nothing.ensures) h);
 }
 
 pub loop-i-init : goal.loop-i-init
@@ -32,7 +32,7 @@ returns-in-Equal g c =
       within = simp length-set (omega (arith, c.requires, c.loop-i.auto.room));
       merged = λ h. (
         simp length-set (omega (arith, c.requires, c.loop-i.auto.room)),
-        something_row (lawful_kind g.met.P.Performance) (lawful_weight g.met.W.Weight) _ _ _ (sym c.if-weighs-nothing.ensures) h
+        something_row (lawful_kind g.met.P.Performance) (lawful_weight g.met.W.Weight) _ _ _ (sym c.if-weighs_nothing.ensures) h
             (c.loop-i.invariant
             ∙ pass_equal g.P.Performance g.W.Weight c.loop-i.room c.loop-i.i c.args.len c.index-room-i.result c.loop-i.carried c.loop-i-test.true inside c.index-room-i.is (sym c.in-Equal.ensures)
             ∙ ap (λ t. take c.args.len (set c.loop-i.room c.loop-i.i t)) (sym c.grown.ensures)),
@@ -48,7 +48,7 @@ returns-then-len-room g c =
       within = tt;
       merged = λ h. (
         take len room ++ c.loop-i.carried ∷ [],
-        something_row (lawful_kind g.met.P.Performance) (lawful_weight g.met.W.Weight) _ _ _ (sym c.if-weighs-nothing.ensures) h
+        something_row (lawful_kind g.met.P.Performance) (lawful_weight g.met.W.Weight) _ _ _ (sym c.if-weighs_nothing.ensures) h
             (c.loop-i.invariant ∙ pass_end g.P.Performance g.W.Weight room c.loop-i.i len c.loop-i.carried c.loop-i-test.false (omega arith)),
         omega (arith, length_push (take len room) c.loop-i.carried, length-take-le len room inside),
       );
@@ -63,7 +63,7 @@ returns g c =
       within = simp length-set (omega arith);
       merged = λ h. (
         simp length-set (omega arith),
-        something_row (lawful_kind g.met.P.Performance) (lawful_weight g.met.W.Weight) _ _ _ (sym c.if-weighs-nothing.ensures) h
+        something_row (lawful_kind g.met.P.Performance) (lawful_weight g.met.W.Weight) _ _ _ (sym c.if-weighs_nothing.ensures) h
             (c.loop-i.invariant
             ∙ pass_end g.P.Performance g.W.Weight room c.loop-i.i len c.loop-i.carried c.loop-i-test.false (omega arith)
             ∙ sym (take_more_set room len c.loop-i.carried inside)),
