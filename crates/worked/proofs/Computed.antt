@@ -51,4 +51,4 @@ redrawn_same =
     (in_any_order equality counts at Series refl (more (one pumps) (part 2)) (more (one (part 2)) pumps) (Permᴰ.swap refl refl))
     (replaced equality counts at at Series (one (part 2)) (one (part 2)) pumps exchanged
     (same_itself equality counts (reading at (joined Series (one (part 2)))))
-    (reordered equality counts at Parallel refl (part 0) (part 1)))
+    (in_any_order equality counts at Parallel refl (more (one (part 0)) (part 1)) (more (one (part 1)) (part 0)) (Permᴰ.swap refl refl)))

@@ -1,7 +1,7 @@
 -- Values of kinds, weights and rows, worked by hand.
 use Rattle.std.specs.Prelude.{◌≡◌, ℕ, min, List, [], ◌∷◌}
-use Rattle.std.proofs.Common.{arith}
 use Rattle.kinds.specs.Capped.{top32}
+use Rattle.kinds.specs.Fits.{capped_fits}
 use Rattle.kinds.specs.Flows.{flow_series, flow_parallel, flow_bridge}
 use Rattle.kinds.specs.Delays.{delay_bridge}
 use Rattle.kinds.specs.FaultSets.{faults_bridge}
@@ -33,22 +33,22 @@ use Rattle.terms.specs.Readings.{ReadSame}
 
 -- the value of a number; no number below is past the top
 abbrev pub flow : ℕ → Flow
-flow n = record { rate = min n top32; fits = omega arith }
+flow n = record { rate = min n top32; fits = capped_fits n }
 
 abbrev delay : ℕ → Delay
-delay n = record { time = min n top32; fits = omega arith }
+delay n = record { time = min n top32; fits = capped_fits n }
 
 abbrev faults : ℕ → FaultSet
-faults n = record { classes = min n top32; fits = omega arith }
+faults n = record { classes = min n top32; fits = capped_fits n }
 
 abbrev fault : ℕ → FirstFault
-fault n = record { fault = min n top32; fits = omega arith }
+fault n = record { fault = min n top32; fits = capped_fits n }
 
 abbrev pub parts : ℕ → Parts
-parts n = record { count = min n top32; fits = omega arith }
+parts n = record { count = min n top32; fits = capped_fits n }
 
 abbrev pub scenarios : ℕ → Scenarios
-scenarios n = record { members = min n top32; fits = omega arith }
+scenarios n = record { members = min n top32; fits = capped_fits n }
 
 abbrev service : ℕ → OrOut Flow
 service n = Working (flow n)

@@ -1,4 +1,6 @@
 // A small plant from start to end: two pumps in parallel, then a pipe in series.
+#![tactic(auto)]
+
 ghost use Rattle.std.specs.Prelude.{◌≡◌, ◌++◌, IfOk, string_bytes};
 ghost use Rattle.kinds.specs.Flows.{flow_rate};
 ghost use Rattle.kinds.specs.Holding.{Holds};
