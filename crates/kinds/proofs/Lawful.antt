@@ -1,5 +1,5 @@
 -- The laws of a kind and of a weight, each as one record, packed from what the traits' bounds give.
-use Rattle.std.proofs.Common.{◌≡◌, Bool, true, false, Less, Equal}
+use Rattle.std.proofs.Common.{◌≡◌, true, false, Less, Equal}
 use Rattle.std.specs.Ordering.{ordering_reverse}
 use Rattle.std.specs.declared.clone.Clone
 use Rattle.kinds.specs.declared.performance.Performance

@@ -1,11 +1,11 @@
 -- Bits as members of a set.
-use Rattle.std.proofs.Common.{◌≡◌, ℕ, zero, suc, ◌+◌, ◌*◌, ◌/◌, ◌%◌, ◌^◌, ◌<◌, ◌≤◌, min, max, eqb, ◌⊎◌, Decides, sym, refl, ap, ◌∙◌, inl, inr, ⊎_elim, arith}
+use Rattle.std.proofs.Common.{◌≡◌, ℕ, ◌+◌, ◌/◌, ◌%◌, ◌^◌, min, max, eqb, Decides, sym, refl, ap, ◌∙◌, inl, inr, ⊎_elim, arith}
 use Rattle.std.proofs.lemmas.Bool.{cases_eq}
 use Rattle.std.proofs.lemmas.Bool.Decides.{Decides-like, Decides-eqb}
 use lib.Arith.{bin_ind}
-use lib.Bits.{bit_and, bit_or, and_step, or_step, and_shr, or_shr}
+use lib.Bits.{bit_and, bit_or, and_shr, or_shr}
 use Rattle.std.proofs.lemmas.Nat.{shr-shr}
-use Rattle.kinds.specs.Members.{Member, Within, UnionHas, IntersectionHas}
+use Rattle.kinds.specs.Members.{Within, UnionHas, IntersectionHas}
 use Rattle.kinds.specs.Bitwise.{and_half, and_low, or_low, by_digits}
 
 -- a set lies within another exactly where the intersection leaves it whole

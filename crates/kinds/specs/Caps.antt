@@ -1,5 +1,5 @@
 -- Facts on capping, for any top.
-use Rattle.std.specs.Prelude.{◌≡◌, ℕ, zero, suc, ◌+◌, ◌*◌, ◌<◌, ◌≤◌, min, ◌⊎◌, refl}
+use Rattle.std.specs.Prelude.{◌≡◌, ℕ, zero, suc, ◌+◌, ◌*◌, ◌≤◌, min}
 use Rattle.std.proofs.Common.{ap, sym, ◌∙◌, ⊎_elim, mul-add, suc-mul, zero-mul, mul_comm, mul_assoc, arith}
 use Rattle.std.proofs.lemmas.Bool.{cases_lt}
 use Rattle.kinds.specs.Capped.{capped, capped_sum, capped_product, least_of_four}

@@ -1,9 +1,8 @@
 -- A drawing asks only of the parts beneath it.
-use Rattle.std.proofs.Common.{◌≡◌, ℕ, cond, eqb, List, [], ◌∷◌, sym, refl, ap, ◌∙◌}
+use Rattle.std.proofs.Common.{◌≡◌, ℕ, eqb, List, [], ◌∷◌, sym, refl, ap, ◌∙◌}
 use Rattle.std.proofs.lemmas.Bool.{eq-eqb, cond-true}
 use Rattle.kinds.specs.declared.performance.Performance
 use Rattle.kinds.specs.declared.weight.Weight
-use Rattle.terms.specs.declared.term.Term.{Term}
 use Rattle.terms.specs.declared.term.Way.{Way}
 use Rattle.terms.specs.Rows.{weight_at}
 use Rattle.terms.specs.Combinations.{each, term}

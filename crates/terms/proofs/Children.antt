@@ -1,5 +1,5 @@
 -- Child by child: the combinations of a drawing from those of its children, and its running results.
-use Rattle.std.proofs.Common.{◌≡◌, sym, refl, ◌∙◌}
+use Rattle.std.proofs.Common.{sym, refl, ◌∙◌}
 use Rattle.std.specs.List.{ContainsAt as Has, AllByRecursion as All}
 use Rattle.std.proofs.ByRecursion.{All-push, all-has}
 use Rattle.kinds.specs.declared.performance.Performance

@@ -7,7 +7,7 @@ use Rattle.terms.specs.Rows.{sum_over, share, SameDistribution}
 use Rattle.terms.specs.Combinations.{each, term, combined, combinations, bridged, bridges}
 use Rattle.terms.specs.Sums.{total_of, met_of, counted_for}
 use Rattle.kinds.proofs.Lawful.{Kind, Weighing}
-use Rattle.terms.proofs.Summing.{Additive, Linear, linear_itself, linear_times, linear_scaled, additive_through, additive_sum, sum_cong, sum_each, sum_one, sum_swap}
+use Rattle.terms.proofs.Summing.{Additive, linear_itself, linear_times, linear_scaled, additive_through, additive_sum, sum_cong, sum_each, sum_one, sum_swap}
 use Rattle.terms.proofs.Canonical.{share_additive, sum_same}
 use Rattle.terms.proofs.Each.{each_cong, each_each}
 

@@ -1,5 +1,5 @@
 -- Being the same reading is reflexive, symmetric and transitive.
-use Rattle.std.proofs.Common.{◌≡◌, Bool, true, false, sym, refl, ◌∙◌, subst}
+use Rattle.std.proofs.Common.{Bool, true, false, sym, refl, ◌∙◌, subst}
 use Rattle.kinds.specs.declared.performance.Performance
 use Rattle.kinds.specs.declared.weight.Weight
 use Rattle.terms.specs.declared.term.Way.{Way}

@@ -1,5 +1,5 @@
 -- The enumeration lists every combination, nothing else, and as many as there are ways to pick.
-use Rattle.std.proofs.Common.{◌≡◌, ℕ, zero, suc, ◌+◌, ◌*◌, ◌<◌, true, false, cond, ◌||◌, eqb, List, [], ◌∷◌, ◌++◌, length, get_or, sym, refl, ap, ◌∙◌, subst, ⊎_elim, suc-mul, mul-one, arith}
+use Rattle.std.proofs.Common.{◌≡◌, ℕ, zero, suc, ◌+◌, ◌*◌, ◌<◌, true, eqb, List, [], ◌∷◌, length, get_or, sym, refl, ap, ◌∙◌, subst, ⊎_elim, suc-mul, mul-one, arith}
 use Rattle.std.proofs.lemmas.List.{length-append}
 use Rattle.std.specs.List.{ContainsAt as Has, AllByRecursion as All}
 use Rattle.std.proofs.ByRecursion.{All-append, All-weaker, all_has_itself, has_append_left, has_append_right, has_push}
@@ -9,7 +9,7 @@ use Rattle.kinds.specs.declared.weight.Weight
 use Rattle.terms.specs.declared.term.Term.{Term}
 use Rattle.terms.specs.Combinations.{each, term}
 use Rattle.terms.specs.Drawings.{Drawing, PartList, only, and, has, places, parts_beneath}
-use Rattle.terms.specs.Enumeration.{but, picks, performance_of, weight_of, combination}
+use Rattle.terms.specs.Enumeration.{but, picks, combination}
 use Rattle.terms.specs.EnumerationLaws.{ways_to_pick, EveryCombination, NothingElse, AsManyAsPicks}
 use Rattle.terms.proofs.Picks.{AgreeOn, agree_once, has_once, but_same, but_own}
 use Rattle.terms.proofs.Stepwise.{performance_asks, weight_asks}

@@ -1,5 +1,5 @@
 -- Picks over one list of parts followed by another.
-use Rattle.std.proofs.Common.{◌≡◌, ℕ, Bool, true, false, cond, ◌||◌, eqb, List, [], ◌∷◌, sym, refl, ap, ◌∙◌, subst, ⊎_elim, append-nil}
+use Rattle.std.proofs.Common.{◌≡◌, ℕ, Bool, true, false, ◌||◌, eqb, List, [], ◌∷◌, sym, refl, ap, ◌∙◌, subst, ⊎_elim}
 use Rattle.std.proofs.lemmas.Bool.{eq-eqb, eqb-true, or_parts, or_left, or_right, or_cases, cond-true, cond-false, cond_both}
 use Rattle.terms.specs.Combinations.{each}
 use Rattle.terms.specs.Drawings.{PartList, only, and, followed_by, has, once, NoneTwice}

@@ -1,4 +1,4 @@
-use Rattle.std.proofs.Common.{[], ◌∷◌, ◌++◌, take, None, refl, subst, append-nil, arith}
+use Rattle.std.proofs.Common.{[], take, None, refl, subst, append-nil, arith}
 use Rattle.terms.specs.Rows.{RowOf}
 use Rattle.terms.specs.Merging.{Merges}
 use Rattle.terms.specs.Picking.{from_b}

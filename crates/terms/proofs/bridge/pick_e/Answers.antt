@@ -1,8 +1,7 @@
-use Rattle.std.proofs.Common.{[], ◌∷◌, ◌++◌, take, None, sym, refl, subst}
+use Rattle.std.proofs.Common.{[], ◌∷◌, take, None, sym, refl, subst}
 use Rattle.terms.specs.Rows.{RowOf}
 use Rattle.terms.specs.Merging.{Merges}
 use Rattle.terms.specs.Combinations.{term}
-use Rattle.terms.specs.Picking.{from_e}
 use Rattle.kinds.proofs.Lawful.{lawful_kind, lawful_weight}
 use Rattle.terms.proofs.Looping.{each_more, each_refused, each_all}
 use Rattle.terms.proofs.Voiding.{void_from_e, void_adds}

@@ -1,4 +1,4 @@
-use Rattle.std.proofs.Common.{[], ◌∷◌, ◌++◌, take, None, refl, subst}
+use Rattle.std.proofs.Common.{[], ◌∷◌, take, None, refl, subst}
 use Rattle.terms.specs.Rows.{RowOf}
 use Rattle.terms.specs.Merging.{Merges}
 use Rattle.terms.specs.Combinations.{joins, combined}

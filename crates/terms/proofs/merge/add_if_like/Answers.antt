@@ -1,4 +1,4 @@
-use Rattle.std.proofs.Common.{◌≡◌, ◌∷◌, length, take, set, sym, refl, subst, arith, length-set, rules}
+use Rattle.std.proofs.Common.{◌∷◌, take, set, sym, subst, arith, length-set, rules}
 use Rattle.terms.specs.Rows.{RowOf}
 use Rattle.kinds.proofs.Lawful.{lawful_kind, lawful_weight}
 use Rattle.terms.proofs.Placing.{add_here}

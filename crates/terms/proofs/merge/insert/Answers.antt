@@ -1,8 +1,8 @@
-use Rattle.std.proofs.Common.{◌≡◌, ℕ, ◌+◌, ◌-◌, ◌<◌, ◌≤◌, [], ◌∷◌, ◌++◌, length, get_or, take, set, sym, refl, ap, ◌∙◌, subst, arith, length-set}
+use Rattle.std.proofs.Common.{◌≡◌, ◌+◌, ◌-◌, ◌<◌, ◌≤◌, [], ◌∷◌, ◌++◌, length, take, set, sym, ap, ◌∙◌, arith, length-set}
 use Rattle.std.proofs.lemmas.List.{take_more_set, length-take-le, length_push}
 use Rattle.kinds.proofs.Lawful.{lawful_kind, lawful_weight}
 use Rattle.terms.proofs.Canonical.{put_in}
-use Rattle.terms.proofs.Passing.{Passed, pass_less, pass_greater, pass_equal, pass_end, passed_as, nothing_row, something_row}
+use Rattle.terms.proofs.Passing.{pass_less, pass_greater, pass_equal, pass_end, passed_as, nothing_row, something_row}
 use Rattle.terms.proofs.merge.insert.Goals as goal
 use Rattle.terms.proofs.merge.insert.Goals.{in-Less, in-Greater}
 
