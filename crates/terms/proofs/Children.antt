@@ -1,7 +1,6 @@
 -- Child by child: the combinations of a drawing from those of its children, and its running results.
-use Rattle.std.proofs.Common.{sym, refl, ◌∙◌}
-use Rattle.std.specs.List.{ContainsAt as Has, AllByRecursion as All}
-use Rattle.std.proofs.ByRecursion.{All-push, all-has}
+use Rattle.std.proofs.Common.{[], All, Contains, sym, refl, ◌∙◌}
+use Rattle.std.proofs.lemmas.List.Elements.{All-nil, All-push, All-contains}
 use Rattle.kinds.specs.declared.performance.Performance
 use Rattle.kinds.specs.declared.weight.Weight
 use Rattle.terms.specs.declared.term.Way.{Way}
@@ -39,17 +38,17 @@ module _ {P W : Type 0} (kind : Performance.Ghosts P) (weights : Weight.Ghosts W
     -- no part stands twice in any of the first ones
 
     first_ones_once : (way : Way) (ds : Children) → NoneTwice (places_of ds) → All NoPartTwice (first_ones way ds)
-    first_ones_once way (one d) h = tt
+    first_ones_once way (one d) h = All-nil NoPartTwice
     first_ones_once way (more ds d) h = All-push NoPartTwice (first_ones way ds) (joined way (more ds d)) (first_ones_once way ds (apart_followed (places_of ds) (places d) h).0) h
 
     running_once : (d : Drawing) → NoPartTwice d → All NoPartTwice (running_drawings d)
-    running_once (part n) h = tt
+    running_once (part n) h = All-nil NoPartTwice
     running_once (joined way ds) h = first_ones_once way ds h
-    running_once (bridge a b c d e) h = (h, tt)
+    running_once (bridge a b c d e) h = All-push NoPartTwice [] (bridge a b c d e) (All-nil NoPartTwice) h
 
     pub steps_find_running_results : StepsFindRunningResults kind weights
     steps_find_running_results states d h r =
-        let once : (x : Drawing) → Has (running_drawings d) x → NoPartTwice x = λ x m. all-has NoPartTwice (running_drawings d) x (running_once d h) m in (
+        let once : (x : Drawing) → Contains (running_drawings d) x → NoPartTwice x = λ x m. All-contains NoPartTwice (running_drawings d) x (running_once d h) m in (
           (λ f. (f.0, f.1, (steps_find_the_row states f.0 (once f.0 f.1) r).1 f.2)),
           (λ f. (f.0, f.1, (steps_find_the_row states f.0 (once f.0 f.1) r).0 f.2)),
         )

@@ -1,6 +1,5 @@
 -- What holds of the combinations of every drawing, for every kind and weight.
-use Rattle.std.specs.Prelude.{◌≡◌, ℕ, ◌*◌, ◌↔◌, List, [], ◌∷◌, length}
-use Rattle.std.specs.List.{ContainsAt as Has, AllByRecursion as All}
+use Rattle.std.specs.Prelude.{◌≡◌, ℕ, ◌*◌, ◌↔◌, List, [], ◌∷◌, length, All, Contains}
 use Rattle.kinds.specs.declared.performance.Performance
 use Rattle.kinds.specs.declared.weight.Weight
 use Rattle.terms.specs.declared.term.Term.{Term}
@@ -35,13 +34,13 @@ module _ {P W : Type 0} (kind : Performance.Ghosts P) (weights : Weight.Ghosts W
 
   -- each part beneath the drawing is in one of its states
   abbrev PicksFrom : States → Drawing → (ℕ → Term P W) → Type 0
-  PicksFrom states d pick = (n : ℕ) → Beneath n d → Has (states n) (pick n)
+  PicksFrom states d pick = (n : ℕ) → Beneath n d → Contains (states n) (pick n)
 
   -- every combination is listed, nothing else is, and there are as many as ways to pick
   abbrev pub EveryCombination : Type 0
   EveryCombination =
       (states : States) (d : Drawing) (pick : ℕ → Term P W) → PicksFrom states d pick →
-      Has (enumerated states d) (combination kind weights d pick)
+      Contains (enumerated states d) (combination kind weights d pick)
 
   abbrev pub NothingElse : Type 0
   NothingElse =
@@ -101,4 +100,4 @@ module _ {P W : Type 0} (kind : Performance.Ghosts P) (weights : Weight.Ghosts W
   abbrev pub StepsFindRunningResults : Type 0
   StepsFindRunningResults =
       (states : States) (d : Drawing) → NoPartTwice d → (r : List (Term P W)) →
-      RunningResult kind weights states d r ↔ ((x : Drawing) × Has (running_drawings d) x × WorkedOut kind weights states x r)
+      RunningResult kind weights states d r ↔ ((x : Drawing) × Contains (running_drawings d) x × WorkedOut kind weights states x r)

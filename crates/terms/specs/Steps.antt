@@ -1,6 +1,5 @@
 -- Rows worked out step by step, and the running results on the way.
-use Rattle.std.specs.Prelude.{ℕ, List, [], ◌∷◌, ◌++◌}
-use Rattle.std.specs.List.{ContainsAt as Has}
+use Rattle.std.specs.Prelude.{ℕ, List, [], ◌∷◌, ◌++◌, Contains}
 use Rattle.kinds.specs.declared.performance.Performance
 use Rattle.kinds.specs.declared.weight.Weight
 use Rattle.terms.specs.declared.term.Term.{Term}
@@ -27,7 +26,7 @@ module _ {P W : Type 0} (kind : Performance.Ghosts P) (weights : Weight.Ghosts W
 
   -- a running result: the row of the first j children so joined, for j from 2 to all; of a bridge its own
   abbrev pub RunningResult : Drawing → Terms → Type 0
-  RunningResult d r = (x : Drawing) × Has (running_drawings d) x × RowOf kind weights (enumeration kind weights states x) r
+  RunningResult d r = (x : Drawing) × Contains (running_drawings d) x × RowOf kind weights (enumeration kind weights states x) r
 
   -- r is found from rows alone: a part's from its states, children joined one after the other from the left, a row at every
   -- step, and a bridge's from the rows of its five arms
