@@ -68,7 +68,8 @@ fn pick_b<P: Performance, W: Weight>(
     room: &mut [Term<P, W>],
     start: Filled,
 ) -> Option<Filled>
-    requires { (start.len ≤ length room.old) × (IsRow P.Performance W.Weight (take start.len room.old)) }
+    requires fits { start.len ≤ length room.old }
+    requires row { IsRow P.Performance W.Weight (take start.len room.old) }
     ensures { MergesOnto P.Performance W.Weight (from_b P.Performance W.Weight a weight arm_b.now arm_c.now arm_d.now arm_e.now) start.len room.old room.new (length_in result) }
 {
     let mut filled = start;
@@ -101,7 +102,8 @@ fn pick_c<P: Performance, W: Weight>(
     room: &mut [Term<P, W>],
     start: Filled,
 ) -> Option<Filled>
-    requires { (start.len ≤ length room.old) × (IsRow P.Performance W.Weight (take start.len room.old)) }
+    requires fits { start.len ≤ length room.old }
+    requires row { IsRow P.Performance W.Weight (take start.len room.old) }
     ensures { MergesOnto P.Performance W.Weight (from_c P.Performance W.Weight a b weight arm_c.now arm_d.now arm_e.now) start.len room.old room.new (length_in result) }
 {
     if weight.is_nothing() {
@@ -137,7 +139,8 @@ fn pick_d<P: Performance, W: Weight>(
     room: &mut [Term<P, W>],
     start: Filled,
 ) -> Option<Filled>
-    requires { (start.len ≤ length room.old) × (IsRow P.Performance W.Weight (take start.len room.old)) }
+    requires fits { start.len ≤ length room.old }
+    requires row { IsRow P.Performance W.Weight (take start.len room.old) }
     ensures { MergesOnto P.Performance W.Weight (from_d P.Performance W.Weight a b c weight arm_d.now arm_e.now) start.len room.old room.new (length_in result) }
 {
     if weight.is_nothing() {
@@ -173,7 +176,8 @@ fn pick_e<P: Performance, W: Weight>(
     room: &mut [Term<P, W>],
     start: Filled,
 ) -> Option<Filled>
-    requires { (start.len ≤ length room.old) × (IsRow P.Performance W.Weight (take start.len room.old)) }
+    requires fits { start.len ≤ length room.old }
+    requires row { IsRow P.Performance W.Weight (take start.len room.old) }
     ensures { MergesOnto P.Performance W.Weight (from_e P.Performance W.Weight a b c d weight arm_e.now) start.len room.old room.new (length_in result) }
 {
     if weight.is_nothing() {

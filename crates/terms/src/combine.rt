@@ -69,7 +69,8 @@ fn spread<P: Performance, W: Weight>(
     room: &mut [Term<P, W>],
     start: Filled,
 ) -> Option<Filled>
-    requires { (start.len ≤ length room.old) × (IsRow P.Performance W.Weight (take start.len room.old)) }
+    requires fits { start.len ≤ length room.old }
+    requires row { IsRow P.Performance W.Weight (take start.len room.old) }
     ensures { MergesOnto P.Performance W.Weight (each ys.now (λ y. combined W.Weight (joins P.Performance way) x y ∷ [])) start.len room.old room.new (length_in result) }
 {
     let mut filled = start;

@@ -26,7 +26,8 @@ const ROOM: usize = 64;
 
 // A performance that `count` parts of the whole have.
 fn weighed<P: Copy>(performance: P, count: u32) -> Term<P, Parts>
-    ensures { (result.performance ≡ performance) × (Holds parts_count count result.weight) }
+    ensures performance { result.performance ≡ performance }
+    ensures weight { Holds parts_count count result.weight }
 {
     Term {
         performance,
@@ -36,7 +37,8 @@ fn weighed<P: Copy>(performance: P, count: u32) -> Term<P, Parts>
 
 // `count` parts of the whole pass `rate`.
 fn state(rate: u32, count: u32) -> State
-    ensures { (Holds flow_rate rate result.performance) × (Holds parts_count count result.weight) }
+    ensures performance { Holds flow_rate rate result.performance }
+    ensures weight { Holds parts_count count result.weight }
 {
     weighed(Flow::new(rate), count)
 }

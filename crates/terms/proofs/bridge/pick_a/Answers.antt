@@ -10,7 +10,7 @@ pub loop-a-init : goal.loop-a-init
 loop-a-init g c = (omega arith, record { row = tt; same = λ p. refl })
 
 pub pick_b-requires : goal.pick_b-requires
-pick_b-requires g c = (c.loop-a.invariant.0, c.loop-a.invariant.1.row)
+pick_b-requires g c = record { fits = c.loop-a.invariant.0; row = c.loop-a.invariant.1.row }
 
 pub loop-a-preserved : goal.loop-a-preserved
 loop-a-preserved g c =

@@ -7,10 +7,10 @@ use Rattle.terms.proofs.Looping.{each_more, each_refused, each_all}
 use Rattle.terms.proofs.bridge.pick_b.Goals as goal
 
 pub loop-b-init : goal.loop-b-init
-loop-b-init g c = (c.requires.0, record { row = c.requires.1; same = λ p. refl })
+loop-b-init g c = (c.requires.fits, record { row = c.requires.row; same = λ p. refl })
 
 pub pick_c-requires : goal.pick_c-requires
-pick_c-requires g c = (c.loop-b.invariant.0, c.loop-b.invariant.1.row)
+pick_c-requires g c = record { fits = c.loop-b.invariant.0; row = c.loop-b.invariant.1.row }
 
 pub loop-b-preserved : goal.loop-b-preserved
 loop-b-preserved g c =

@@ -11,13 +11,13 @@ pub returns-then-is_nothing : goal.returns-then-is_nothing
 returns-then-is_nothing g c =
     let k = lawful_kind g.met.P.Performance in
     let w = lawful_weight g.met.W.Weight in
-    (c.requires.0, void_adds k w _ _ (void_from_d k w c.args.a c.args.b c.args.c c.args.weight c.args.arm_d.now c.args.arm_e.now (w.only_nothing c.args.weight (sym c.if-is_nothing.ensures))) c.requires.1)
+    (c.requires.fits, void_adds k w _ _ (void_from_d k w c.args.a c.args.b c.args.c c.args.weight c.args.arm_d.now c.args.arm_e.now (w.only_nothing c.args.weight (sym c.if-is_nothing.ensures))) c.requires.row)
 
 pub loop-d-init : goal.loop-d-init
-loop-d-init g c = (c.requires.0, record { row = c.requires.1; same = λ p. refl })
+loop-d-init g c = (c.requires.fits, record { row = c.requires.row; same = λ p. refl })
 
 pub pick_e-requires : goal.pick_e-requires
-pick_e-requires g c = (c.loop-d.invariant.0, c.loop-d.invariant.1.row)
+pick_e-requires g c = record { fits = c.loop-d.invariant.0; row = c.loop-d.invariant.1.row }
 
 pub loop-d-preserved : goal.loop-d-preserved
 loop-d-preserved g c =

@@ -11,10 +11,10 @@ pub returns-then-is_nothing : goal.returns-then-is_nothing
 returns-then-is_nothing g c =
     let k = lawful_kind g.met.P.Performance in
     let w = lawful_weight g.met.W.Weight in
-    (c.requires.0, void_adds k w _ _ (void_from_e k w c.args.a c.args.b c.args.c c.args.d c.args.weight c.args.arm_e.now (w.only_nothing c.args.weight (sym c.if-is_nothing.ensures))) c.requires.1)
+    (c.requires.fits, void_adds k w _ _ (void_from_e k w c.args.a c.args.b c.args.c c.args.d c.args.weight c.args.arm_e.now (w.only_nothing c.args.weight (sym c.if-is_nothing.ensures))) c.requires.row)
 
 pub loop-e-init : goal.loop-e-init
-loop-e-init g c = (c.requires.0, record { row = c.requires.1; same = λ p. refl })
+loop-e-init g c = (c.requires.fits, record { row = c.requires.row; same = λ p. refl })
 
 pub put-requires : goal.put-requires
 put-requires g c = c.loop-e.invariant.0

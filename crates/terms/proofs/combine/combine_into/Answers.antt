@@ -10,7 +10,7 @@ pub loop-x-init : goal.loop-x-init
 loop-x-init g c = (omega arith, record { row = tt; same = λ p. refl })
 
 pub spread-requires : goal.spread-requires
-spread-requires g c = (c.loop-x.invariant.0, c.loop-x.invariant.1.row)
+spread-requires g c = record { fits = c.loop-x.invariant.0; row = c.loop-x.invariant.1.row }
 
 pub loop-x-preserved : goal.loop-x-preserved
 loop-x-preserved g c =

@@ -7,7 +7,7 @@ use Rattle.terms.proofs.Looping.{each_more, each_refused, each_all}
 use Rattle.terms.proofs.combine.spread.Goals as goal
 
 pub loop-y-init : goal.loop-y-init
-loop-y-init g c = (c.requires.0, record { row = c.requires.1; same = λ p. refl })
+loop-y-init g c = (c.requires.fits, record { row = c.requires.row; same = λ p. refl })
 
 pub put-requires : goal.put-requires
 put-requires g c = c.loop-y.invariant.0
