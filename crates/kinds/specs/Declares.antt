@@ -8,7 +8,7 @@ use Rattle.kinds.specs.contracts.flow.FlowPerformance.TheImpl as flow_kind
 
 -- the kind declares this for series, and that for parallel
 abbrev pub Declares : {P : Type 0} → Performance.Ghosts P → Bool → Bool → Type 0
-Declares kind inSeries inParallel = (kind.series_ordered ≡ inSeries) × (kind.parallel_ordered ≡ inParallel)
+Declares kind in_series in_parallel = (kind.series_ordered ≡ in_series) × (kind.parallel_ordered ≡ in_parallel)
 
 -- of the named kinds only first fault says that it counts
 pub record NamedDeclare : Type 0 where

@@ -14,13 +14,13 @@ then_less Greater p h = let z : ◌≡◌ {A = ℕ} 0 1 = cc in absurd (omega ar
 
 module _ {X Y : Type 0} (f : X → X → Ordering) (g : Y → Y → Ordering)
     (same : (a b : X) → f a b ≡ Equal → a ≡ b)
-    (f-less : (a b c : X) → f a b ≡ Less → f b c ≡ Less → f a c ≡ Less)
+    (f_less : (a b c : X) → f a b ≡ Less → f b c ≡ Less → f a c ≡ Less)
     (g_less : (a b c : Y) → g a b ≡ Less → g b c ≡ Less → g a c ≡ Less) where
   pub pair_less : (a b c : Pair X Y) → pair_compared f g a b ≡ Less → pair_compared f g b c ≡ Less → pair_compared f g a c ≡ Less
   pair_less a b c p q =
       ⊎_elim
       (λ l. ⊎_elim
-      (λ m. let r = f-less a.first b.first c.first l m in cc)
+      (λ m. let r = f_less a.first b.first c.first l m in cc)
       (λ m. let e = same b.first c.first m.0 in cc)
       (then_less (f b.first c.first) (g b.second c.second) q))
       (λ l. let e = same a.first b.first l.0 in ⊎_elim

@@ -8,7 +8,7 @@ use std::cmp::Ordering;
 
 // The values of the kind are the values of the type. They are Copy: an operation refuses nothing and changes nothing.
 pub trait Performance: Copy {
-    // Whether the order of the operands counts. Nothing can cite these in a law: the ghosts
+    // Whether the order of the operands counts. The laws do not cite these: the ghosts
     // `series_ordered` and `parallel_ordered`, which the two methods answer, are binding.
     const SERIES_ORDER_COUNTS: bool;
 

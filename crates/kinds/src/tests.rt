@@ -60,7 +60,7 @@ fn constants<K: Performance>() -> (bool, bool) {
     (K::SERIES_ORDER_COUNTS, K::PARALLEL_ORDER_COUNTS)
 }
 
-// No law can cite the constants; here they are held against what the methods answer.
+// The laws do not cite the constants; here they are held against what the methods answer.
 #[test]
 fn constants_say_what_the_methods_say(rt: HostRuntime) {
     assert_eq!(rt; constants::<Flow>(), order_counts::<Flow>());

@@ -30,7 +30,7 @@ pub record Equality {D : Type 0} (equal : D → D → Type 0) : Type 0 where
   pub flip : (x y : D) → equal x y → equal y x
   pub trans : (x y z : D) → equal x y → equal y z → equal x z
 
-module _ {D : Type 0} {equal : D → D → Type 0} (equality : Equality equal) (orderCounts : Way → Bool) where
+module _ {D : Type 0} {equal : D → D → Type 0} (equality : Equality equal) (is_ordered : Way → Bool) where
   abbrev R : Type 0
   R = Reading D
 
@@ -38,15 +38,15 @@ module _ {D : Type 0} {equal : D → D → Type 0} (equality : Equality equal) (
   Rs = Readings D
 
   abbrev Same : R → R → Type 0
-  Same = SameReading equal orderCounts
+  Same = SameReading equal is_ordered
 
   abbrev Agrees : Rs → Rs → Type 0
-  Agrees = Agree equal orderCounts
+  Agrees = Agree equal is_ordered
 
   mutual
     pub same_itself : (x : R) → Same x x
     same_itself (as_part ts) = parts (equality.itself ts)
-    same_itself (as_joined way xs) = lists xs (may_stay (orderCounts way) xs) (agrees_itself xs)
+    same_itself (as_joined way xs) = lists xs (may_stay (is_ordered way) xs) (agrees_itself xs)
     same_itself (as_bridge a b c d e) = arms (same_itself a) (same_itself b) (same_itself c) (same_itself d) (same_itself e)
 
     pub agrees_itself : (xs : Rs) → Agrees xs xs
@@ -76,7 +76,7 @@ module _ {D : Type 0} {equal : D → D → Type 0} (equality : Equality equal) (
     pub same_flip : {x y : R} → Same x y → Same y x
     same_flip (parts {x = x} {y = y} h) = parts (equality.flip x y h)
     same_flip (lists {way = way} {xs = xs} {ys = ys} zs m a) =
-        let f = follow (orderCounts way) ys zs xs (may_back (orderCounts way) xs zs m) (agrees_flip a) in
+        let f = follow (is_ordered way) ys zs xs (may_back (is_ordered way) xs zs m) (agrees_flip a) in
         lists f.0 f.1 f.2
     same_flip (arms a b c d e) = arms (same_flip a) (same_flip b) (same_flip c) (same_flip d) (same_flip e)
 
@@ -110,8 +110,8 @@ module _ {D : Type 0} {equal : D → D → Type 0} (equality : Equality equal) (
     through : (y : R) → Through y
     through (as_part y) s t (parts {x = x} h) (parts {y = z} i) = parts (equality.trans x y z h i)
     through (as_joined way ys) x z (lists {xs = xs} zs m a) (lists {ys = vs} us n b) =
-        let f = follow (orderCounts way) zs ys us n a in
-        lists f.0 (may_again (orderCounts way) xs zs f.0 m f.1) (agrees_through (through_may (orderCounts way) ys us n (through_all ys)) f.2 b)
+        let f = follow (is_ordered way) zs ys us n a in
+        lists f.0 (may_again (is_ordered way) xs zs f.0 m f.1) (agrees_through (through_may (is_ordered way) ys us n (through_all ys)) f.2 b)
     through (as_bridge a b c d e) x z (arms ha hb hc hd he) (arms ia ib ic id ie) = arms (through a _ _ ha ia) (through b _ _ hb ib) (through c _ _ hc ic) (through d _ _ hd id) (through e _ _ he ie)
 
     through_all : (ys : Rs) → ThroughAll ys

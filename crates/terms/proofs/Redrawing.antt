@@ -44,19 +44,19 @@ module _ {D : Type 0} where
   may_both true xs xs' ys ys' e f = λ i. and_then (e i) (f i)
   may_both false xs xs' ys ys' h i = and_again (rearranged_front h ys) (rearranged_behind xs' i)
 
-module _ {D : Type 0} {equal : D → D → Type 0} (equality : Equality equal) (orderCounts : Way → Bool) where
+module _ {D : Type 0} {equal : D → D → Type 0} (equality : Equality equal) (is_ordered : Way → Bool) where
   abbrev Same : Reading D → Reading D → Type 0
-  Same = SameReading equal orderCounts
+  Same = SameReading equal is_ordered
 
   abbrev Agrees : Readings D → Readings D → Type 0
-  Agrees = Agree equal orderCounts
+  Agrees = Agree equal is_ordered
 
   -- two drawings, given what their parts read as
   abbrev Alike : (ℕ → D) → Drawing → (ℕ → D) → Drawing → Type 0
   Alike f d g e = Same (reading f d) (reading g e)
 
   equal_same : (x y : Reading D) → x ≡ y → Same x y
-  equal_same x y e = subst (Same x) e (same_itself equality orderCounts x)
+  equal_same x y e = subst (Same x) e (same_itself equality is_ordered x)
 
   -- regrouped
 
@@ -103,10 +103,10 @@ module _ {D : Type 0} {equal : D → D → Type 0} (equality : Equality equal) (
         (subst (λ z. Rearranged z (and_then (and_then (its b) (its a)) (all ds))) (then_assoc (its a) (its b) (all ds)) (rearranged_front (exchanged (its a) (its b)) (all ds)))))
     permuted (Permᴰ.trans h i) = and_again (permuted h) (permuted i)
 
-    pub in_any_order : orderCounts way ≡ false → (ds es : Children) → Permᴰ (as_list ds) (as_list es) → Alike f (joined way ds) f (joined way es)
+    pub in_any_order : is_ordered way ≡ false → (ds es : Children) → Permᴰ (as_list ds) (as_list es) → Alike f (joined way ds) f (joined way es)
     in_any_order e ds es h =
         let zs = items f way es in
-        lists zs (subst (λ b. MayBecome b (items f way ds) zs) (sym e) (subst (λ z. Rearranged z zs) (sym (items_all ds)) (subst (Rearranged (all (as_list ds))) (sym (items_all es)) (permuted h)))) (agrees_itself equality orderCounts zs)
+        lists zs (subst (λ b. MayBecome b (items f way ds) zs) (sym e) (subst (λ z. Rearranged z zs) (sym (items_all ds)) (subst (Rearranged (all (as_list ds))) (sym (items_all es)) (permuted h)))) (agrees_itself equality is_ordered zs)
 
   -- a child may be replaced by one that reads the same
 
@@ -121,19 +121,19 @@ module _ {D : Type 0} {equal : D → D → Type 0} (equality : Equality equal) (
   single : (b : Bool) (x y : Reading D) → Same x y → Matches b (item x none) (item y none)
   single b x y h = (item x none, may_stay b (item x none), next h ends)
 
-  list_match : {v v' : Way} {xs ys : Readings D} → Same (as_joined v xs) (as_joined v' ys) → Matches (orderCounts v) xs ys
+  list_match : {v v' : Way} {xs ys : Readings D} → Same (as_joined v xs) (as_joined v' ys) → Matches (is_ordered v) xs ys
   list_match (lists zs m a) = (zs, m, a)
 
-  joined_match : (way v : Way) (xs ys : Readings D) → Matches (orderCounts v) xs ys → Matches (orderCounts way) (in_place way (as_joined v xs)) (in_place way (as_joined v ys))
+  joined_match : (way v : Way) (xs ys : Readings D) → Matches (is_ordered v) xs ys → Matches (is_ordered way) (in_place way (as_joined v xs)) (in_place way (as_joined v ys))
   joined_match Series Series xs ys m = m
-  joined_match Series Parallel xs ys m = single (orderCounts Series) (as_joined Parallel xs) (as_joined Parallel ys) (lists m.0 m.1 m.2)
-  joined_match Parallel Series xs ys m = single (orderCounts Parallel) (as_joined Series xs) (as_joined Series ys) (lists m.0 m.1 m.2)
+  joined_match Series Parallel xs ys m = single (is_ordered Series) (as_joined Parallel xs) (as_joined Parallel ys) (lists m.0 m.1 m.2)
+  joined_match Parallel Series xs ys m = single (is_ordered Parallel) (as_joined Series xs) (as_joined Series ys) (lists m.0 m.1 m.2)
   joined_match Parallel Parallel xs ys m = m
 
-  in_place_match : (way : Way) {x y : Reading D} → Same x y → Matches (orderCounts way) (in_place way x) (in_place way y)
-  in_place_match way (parts {x = x} {y = y} h) = single (orderCounts way) (as_part x) (as_part y) (parts h)
+  in_place_match : (way : Way) {x y : Reading D} → Same x y → Matches (is_ordered way) (in_place way x) (in_place way y)
+  in_place_match way (parts {x = x} {y = y} h) = single (is_ordered way) (as_part x) (as_part y) (parts h)
   in_place_match way (lists {way = v} {xs = xs} {ys = ys} zs m a) = joined_match way v xs ys (zs, m, a)
-  in_place_match way (arms a b c d e) = single (orderCounts way) _ _ (arms a b c d e)
+  in_place_match way (arms a b c d e) = single (is_ordered way) _ _ (arms a b c d e)
 
   module _ (f g : ℕ → D) (way : Way) where
     pub only_replaced : (d e : Drawing) → Alike f d g e → Alike f (joined way (one d)) g (joined way (one e))
@@ -143,10 +143,10 @@ module _ {D : Type 0} {equal : D → D → Type 0} (equality : Equality equal) (
     replaced ds es d e h i =
         let m = list_match h in
         let n = in_place_match way i in
-        lists (and_then m.0 n.0) (may_both (orderCounts way) (items f way ds) m.0 (in_place way (reading f d)) n.0 m.1 n.1) (agrees_both m.2 n.2)
+        lists (and_then m.0 n.0) (may_both (is_ordered way) (items f way ds) m.0 (in_place way (reading f d)) n.0 m.1 n.1) (agrees_both m.2 n.2)
 
     -- where order counts, two parts that are exchanged read the same only if they are alike
-    pub order_counts : orderCounts way ≡ true → (m n : ℕ) → Alike f (joined way (more (one (part m)) (part n))) g (joined way (more (one (part n)) (part m))) → equal (f m) (g n)
+    pub order_counts : is_ordered way ≡ true → (m n : ℕ) → Alike f (joined way (more (one (part m)) (part n))) g (joined way (more (one (part n)) (part m))) → equal (f m) (g n)
     order_counts e m n h =
         let z = list_match h in
         let q = subst (λ b. MayBecome b (item (as_part (f m)) (item (as_part (f n)) none)) z.0) e z.1 in

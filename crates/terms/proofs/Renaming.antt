@@ -73,20 +73,20 @@ module _ {A D : Type 0} (f : A → D) where
   before true xs zs e = (xs, refl, sym e)
   before false xs zs h = before_swaps h xs refl
 
-  module _ (equal : D → D → Type 0) (orderCounts : Way → Bool) where
+  module _ (equal : D → D → Type 0) (is_ordered : Way → Bool) where
     abbrev Told : A → A → Type 0
     Told x y = equal (f x) (f y)
 
     abbrev Within : Readings D → Readings D → Type 0
-    Within = Agree equal orderCounts
+    Within = Agree equal is_ordered
 
     abbrev Same : Reading D → Reading D → Type 0
-    Same = SameReading equal orderCounts
+    Same = SameReading equal is_ordered
 
     part_same : {x y : D} → Same (as_part x) (as_part y) → equal x y
     part_same (parts h) = h
 
-    list_same : {v v' : Way} {xs ys : Readings D} → Same (as_joined v xs) (as_joined v' ys) → (zs : Readings D) × MayBecome (orderCounts v) xs zs × Within zs ys
+    list_same : {v v' : Way} {xs ys : Readings D} → Same (as_joined v xs) (as_joined v' ys) → (zs : Readings D) × MayBecome (is_ordered v) xs zs × Within zs ys
     list_same (lists zs m a) = (zs, m, a)
 
     arms_same : {a b c d e a' b' c' d' e' : Reading D} → Same (as_bridge a b c d e) (as_bridge a' b' c' d' e') → Same a a' × Same b b' × Same c c' × Same d d' × Same e e'
@@ -95,14 +95,14 @@ module _ {A D : Type 0} (f : A → D) where
     items_same : {x y : Reading D} {xs ys : Readings D} → Within (item x xs) (item y ys) → Same x y × Within xs ys
     items_same (next h a) = (h, a)
 
-    untold_list : (way : Way) (xs ys : Readings A) → Same (as_joined way (all_told xs)) (as_joined way (all_told ys)) → ((us : Readings A) → Within (all_told us) (all_told ys) → Agree Told orderCounts us ys) → SameReading Told orderCounts (as_joined way xs) (as_joined way ys)
+    untold_list : (way : Way) (xs ys : Readings A) → Same (as_joined way (all_told xs)) (as_joined way (all_told ys)) → ((us : Readings A) → Within (all_told us) (all_told ys) → Agree Told is_ordered us ys) → SameReading Told is_ordered (as_joined way xs) (as_joined way ys)
     untold_list way xs ys h agrees =
         let s = list_same h in
-        let b = before (orderCounts way) xs s.0 s.1 in
+        let b = before (is_ordered way) xs s.0 s.1 in
         lists b.0 b.1 (agrees b.0 (subst (λ z. Within z (all_told ys)) b.2 s.2))
 
     mutual
-      untold : (y x : Reading A) → Same (told x) (told y) → SameReading Told orderCounts x y
+      untold : (y x : Reading A) → Same (told x) (told y) → SameReading Told is_ordered x y
       untold (as_part y) (as_part x) h = parts (part_same h)
       untold (as_part y) (as_joined way xs) h = elim h [ ]
       untold (as_part y) (as_bridge a b c d e) h = elim h [ ]
@@ -118,12 +118,12 @@ module _ {A D : Type 0} (f : A → D) where
           let s = arms_same h in
           arms (untold a a' s.0) (untold b b' s.1) (untold c c' s.2) (untold d d' s.3) (untold e e' s.4)
 
-      all_untold : (ys xs : Readings A) → Within (all_told xs) (all_told ys) → Agree Told orderCounts xs ys
+      all_untold : (ys xs : Readings A) → Within (all_told xs) (all_told ys) → Agree Told is_ordered xs ys
       all_untold none none h = ends
       all_untold none (item x xs) h = elim h [ ]
       all_untold (item y ys) none h = elim h [ ]
       all_untold (item y ys) (item x xs) h = let s = items_same h in next (untold y x s.0) (all_untold ys xs s.1)
 
     -- drawings whose parts are told read the same exactly where what is told of the parts does
-    pub reads_by : (by by' : ℕ → A) (d e : Drawing) → Same (reading (λ n. f (by n)) d) (reading (λ n. f (by' n)) e) → SameReading Told orderCounts (reading by d) (reading by' e)
+    pub reads_by : (by by' : ℕ → A) (d e : Drawing) → Same (reading (λ n. f (by n)) d) (reading (λ n. f (by' n)) e) → SameReading Told is_ordered (reading by d) (reading by' e)
     reads_by by by' d e h = untold (reading by' e) (reading by d) (subst (λ z. Same z (told (reading by' e))) (sym (told_reading by d)) (subst (Same (reading (λ n. f (by n)) d)) (sym (told_reading by' e)) h))

@@ -46,4 +46,4 @@ module _ {P W : Type 0} (kind : Performance.Ghosts P) (weights : Weight.Ghosts W
 
   -- all the combinations of the five arms
   abbrev pub bridges : List (Term P W) → List (Term P W) → List (Term P W) → List (Term P W) → List (Term P W) → List (Term P W)
-  bridges armA armB armC armD armE = each armA λ a. each armB λ b. each armC λ c. each armD λ d. each armE λ e. bridged a b c d e ∷ []
+  bridges arm_a arm_b arm_c arm_d arm_e = each arm_a λ a. each arm_b λ b. each arm_c λ c. each arm_d λ d. each arm_e λ e. bridged a b c d e ∷ []

@@ -35,10 +35,10 @@ module _ {D : Type 0} where
   in_place way (as_bridge a b c d e) = item (as_bridge a b c d e) none
 
   -- the reading of a drawing, given what each part reads as
-  module _ (partReads : ℕ → D) where
+  module _ (part_reads : ℕ → D) where
     abbrev mutual
       pub reading : Drawing → Reading D
-      reading (part n) = as_part (partReads n)
+      reading (part n) = as_part (part_reads n)
       reading (joined way ds) = as_joined way (items way ds)
       reading (bridge a b c d e) = as_bridge (reading a) (reading b) (reading c) (reading d) (reading e)
 
@@ -59,14 +59,14 @@ module _ {D : Type 0} where
   MayBecome false xs ys = Rearranged xs ys
 
 -- given when two parts are equal, and where order counts
-module _ {D : Type 0} (equal : D → D → Type 0) (orderCounts : Way → Bool) where
+module _ {D : Type 0} (equal : D → D → Type 0) (is_ordered : Way → Bool) where
   mutual
     -- two readings are the same: equal parts; lists joined in the same way that agree, once the first is rearranged where it
     -- may be; bridges arm by arm; different forms never
     pub data SameReading : Reading D → Reading D → Type 0 where
       parts : {x y : D} → equal x y → SameReading (as_part x) (as_part y)
       lists :
-          {way : Way} {xs ys : Readings D} (zs : Readings D) → MayBecome (orderCounts way) xs zs → Agree zs ys →
+          {way : Way} {xs ys : Readings D} (zs : Readings D) → MayBecome (is_ordered way) xs zs → Agree zs ys →
           SameReading (as_joined way xs) (as_joined way ys)
       arms :
           {a b c d e a' b' c' d' e' : Reading D} →
