@@ -1,21 +1,16 @@
 -- Flow is a lawful kind.
-use Rattle.std.proofs.Common.{arith}
-use Rattle.std.proofs.lemmas.Bool.Decides.{nat_tests}
-use Rattle.kinds.specs.Capped.{top32}
 use Rattle.kinds.specs.contracts.flow.FlowPerformance.TheImpl as flow_kind
-use Rattle.kinds.specs.Caps.{sum_assoc, sum_comm}
+use Rattle.kinds.specs.contracts.flow.FlowPerformance.TheImpl.Laws as laws
 use Rattle.kinds.proofs.Lawful.{Kind}
-use Rattle.kinds.specs.Numeric.{numeric_equal}
-use Rattle.kinds.specs.Same.{flow_same}
 
 pub flow_laws : Kind flow_kind.ghosts
 flow_laws = record {
-  same_itself = λ a. grind (arith, nat_tests);
-  same_only = λ a b h. flow_same a b (numeric_equal a.rate b.rate h);
-  swaps = λ a b. grind (arith, nat_tests);
-  transitive = λ a b c p q. grind (arith, nat_tests);
-  series_assoc = λ a b c. flow_same _ _ (omega arith);
-  parallel_assoc = λ a b c. flow_same _ _ (sum_assoc top32 a.rate b.rate c.rate);
-  series_comm = λ e a b. flow_same _ _ (omega arith);
-  parallel_comm = λ e a b. flow_same _ _ (sum_comm top32 a.rate b.rate);
+  same_itself = laws.identical_same-law;
+  same_only = laws.same_identical-law;
+  swaps = laws.swapped-law;
+  transitive = laws.less_transitive-law;
+  series_assoc = laws.series_associative-law;
+  parallel_assoc = laws.parallel_associative-law;
+  series_comm = laws.series_commutative-law;
+  parallel_comm = laws.parallel_commutative-law;
 }

@@ -21,8 +21,8 @@ pub record Kind {P : Type 0} (kind : Performance.Ghosts P) : Type 0 where
   pub transitive : (a b c : P) → kind.compared a b ≡ Less → kind.compared b c ≡ Less → kind.compared a c ≡ Less
   pub series_assoc : (a b c : P) → kind.series (kind.series a b) c ≡ kind.series a (kind.series b c)
   pub parallel_assoc : (a b c : P) → kind.parallel (kind.parallel a b) c ≡ kind.parallel a (kind.parallel b c)
-  pub series_comm : kind.series_ordered ≡ false → (a b : P) → kind.series a b ≡ kind.series b a
-  pub parallel_comm : kind.parallel_ordered ≡ false → (a b : P) → kind.parallel a b ≡ kind.parallel b a
+  pub series_comm : kind.SERIES_ORDER_COUNTS ≡ false → (a b : P) → kind.series a b ≡ kind.series b a
+  pub parallel_comm : kind.PARALLEL_ORDER_COUNTS ≡ false → (a b : P) → kind.parallel a b ≡ kind.parallel b a
 
 pub record Weighing {W : Type 0} (weights : Weight.Ghosts W) : Type 0 where
   pub nothing_is : weights.is_nothing weights.nothing ≡ true

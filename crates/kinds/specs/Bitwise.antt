@@ -25,11 +25,6 @@ or_assoc =
     bin_ind (λ (n : ℕ). (b c : ℕ) → bit_or (bit_or n b) c ≡ bit_or n (bit_or b c)) (λ b c. refl)
     (λ n ih b c. by_digits (simp or_half (ih (b / 2) (c / 2))) (simp or_low (omega arith)))
 
-pub and_assoc : (a b c : ℕ) → bit_and (bit_and a b) c ≡ bit_and a (bit_and b c)
-and_assoc =
-    bin_ind (λ (n : ℕ). (b c : ℕ) → bit_and (bit_and n b) c ≡ bit_and n (bit_and b c)) (λ b c. refl)
-    (λ n ih b c. by_digits (simp and_half (ih (b / 2) (c / 2))) (simp and_low (omega arith)))
-
 pub and_or : (a b c : ℕ) → bit_and a (bit_or b c) ≡ bit_or (bit_and a b) (bit_and a c)
 and_or =
     bin_ind (λ (n : ℕ). (b c : ℕ) → bit_and n (bit_or b c) ≡ bit_or (bit_and n b) (bit_and n c)) (λ b c. refl)

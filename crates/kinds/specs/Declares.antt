@@ -8,7 +8,7 @@ use Rattle.kinds.specs.contracts.flow.FlowPerformance.TheImpl as flow_kind
 
 -- the kind declares this for series, and that for parallel
 abbrev pub Declares : {P : Type 0} → Performance.Ghosts P → Bool → Bool → Type 0
-Declares kind in_series in_parallel = (kind.series_ordered ≡ in_series) × (kind.parallel_ordered ≡ in_parallel)
+Declares kind in_series in_parallel = (kind.SERIES_ORDER_COUNTS ≡ in_series) × (kind.PARALLEL_ORDER_COUNTS ≡ in_parallel)
 
 -- of the named kinds only first fault says that it counts
 pub record NamedDeclare : Type 0 where
@@ -19,8 +19,8 @@ pub record NamedDeclare : Type 0 where
 
 -- a kind that is made of two declares that it counts where it counts for either
 abbrev pub DeclaresEither : {P A B : Type 0} → Performance.Ghosts P → Performance.Ghosts A → Performance.Ghosts B → Type 0
-DeclaresEither kind a b = Declares kind (a.series_ordered || b.series_ordered) (a.parallel_ordered || b.parallel_ordered)
+DeclaresEither kind a b = Declares kind (a.SERIES_ORDER_COUNTS || b.SERIES_ORDER_COUNTS) (a.PARALLEL_ORDER_COUNTS || b.PARALLEL_ORDER_COUNTS)
 
 -- a kind that is made of one declares what that declares
 abbrev pub DeclaresAs : {P A : Type 0} → Performance.Ghosts P → Performance.Ghosts A → Type 0
-DeclaresAs kind a = Declares kind a.series_ordered a.parallel_ordered
+DeclaresAs kind a = Declares kind a.SERIES_ORDER_COUNTS a.PARALLEL_ORDER_COUNTS

@@ -1,22 +1,14 @@
 -- First fault: the one met first; 0 is healthy. Order counts, in series and in parallel.
-use Rattle.std.specs.Prelude.{ℕ, Bool, cond, ◌||◌, ◌==◌}
-use Rattle.std.specs.declared.cmp.Ordering.{Ordering}
-use Rattle.kinds.specs.Orders.{numeric}
-use Rattle.kinds.specs.declared.values.FirstFault.{FirstFault}
-
-abbrev pub fault_number : FirstFault → ℕ
-fault_number v = v.fault
-
-abbrev pub first_compared : FirstFault → FirstFault → Ordering
-first_compared a b = numeric a.fault b.fault
+use Rattle.std.specs.Prelude.{Bool, cond, ◌||◌, ◌==◌}
+use Rattle.kinds.specs.Named.{FirstFault}
 
 -- the first unless it is healthy, then the second
 abbrev pub first_series : FirstFault → FirstFault → FirstFault
-first_series a b = cond (a.fault == 0) b a
+first_series a b = cond (a.bits == 0) b a
 
 -- healthy if either is, else the first
 abbrev pub first_parallel : FirstFault → FirstFault → FirstFault
-first_parallel a b = cond (a.fault == 0) a (cond (b.fault == 0) b a)
+first_parallel a b = cond (a.bits == 0) a (cond (b.bits == 0) b a)
 
 -- the paths a-d, b-e, a-c-e and b-c-d by series, joined by parallel in this order
 abbrev pub first_bridge : FirstFault → FirstFault → FirstFault → FirstFault → FirstFault → FirstFault
@@ -26,4 +18,4 @@ first_bridge a b c d e =
 
 -- v is healthy, or the fault w
 abbrev pub first_meets : FirstFault → FirstFault → Bool
-first_meets v w = v.fault == 0 || v.fault == w.fault
+first_meets v w = v.bits == 0 || v.bits == w.bits

@@ -1,7 +1,7 @@
 -- Bits as members of a set.
 use Rattle.std.specs.Prelude.{◌≡◌, ℕ, ◌/◌, ◌%◌, ◌^◌, ◌⊎◌, Decides, bit_and, bit_or}
 use Rattle.kinds.specs.FaultSets.{faults_meets}
-use Rattle.kinds.specs.declared.values.FaultSet.{FaultSet}
+use Rattle.kinds.specs.Named.{FaultSet}
 
 -- bit i of v is set
 abbrev pub Member : ℕ → ℕ → Type 0
@@ -19,4 +19,4 @@ abbrev pub IntersectionHas : Type 0
 IntersectionHas = (v w i : ℕ) → (Member (bit_and v w) i → Member v i × Member w i) × (Member v i × Member w i → Member (bit_and v w) i)
 
 abbrev pub MeetsIsWithin : Type 0
-MeetsIsWithin = (v w : FaultSet) → Decides (faults_meets v w) (Within v.classes w.classes)
+MeetsIsWithin = (v w : FaultSet) → Decides (faults_meets v w) (Within v.bits w.bits)

@@ -1,101 +1,72 @@
 // Fault set: classes of faults. A series shows what either shows, parallel ways what both show.
-ghost use Rattle.std.specs.Prelude.{◌≡◌, false};
-ghost use Rattle.kinds.specs.Holding.{Holds};
-ghost use Rattle.kinds.specs.FaultSets.{fault_classes, faults_compared, faults_series, faults_parallel, faults_bridge, faults_meets};
-ghost use Rattle.kinds.specs.Same.{faults_same};
-ghost use Rattle.kinds.specs.Bitwise.{or_assoc, and_assoc};
-ghost use Rattle.std.proofs.lemmas.Nat.{or_comm, and_comm};
-ghost use Rattle.kinds.specs.Numeric.{numeric_equal, numeric_itself, numeric_swapped, numeric_less};
+ghost use Rattle.std.specs.Prelude.{false};
+ghost use Rattle.kinds.specs.FaultSets.{faults_bridge, faults_meets};
+ghost use Rattle.kinds.specs.Words.{word_compared, union, intersection};
+ghost use Rattle.kinds.specs.WordLaws.{compared_same, compared_itself, compared_swapped, compared_less, union_assoc, union_comm, intersection_assoc, intersection_comm};
 
 use crate::performance::Performance;
 use crate::values::FaultSet;
 use std::cmp::Ordering;
-
-impl FaultSet {
-    pub fn new(classes: u32) -> FaultSet
-        ensures { Holds fault_classes classes result }
-    {
-        FaultSet::holding(classes)
-    }
-
-    pub fn classes(self) -> u32
-        ensures { result ≡ fault_classes self }
-    {
-        self.classes
-    }
-
-    // The one place where a value is made.
-    fn holding(classes: u32) -> FaultSet
-        ensures { Holds fault_classes classes result }
-    {
-        FaultSet { classes }
-    }
-}
 
 impl Performance for FaultSet {
     const SERIES_ORDER_COUNTS: bool = false;
 
     const PARALLEL_ORDER_COUNTS: bool = false;
 
-    ghost compared = { faults_compared };
+    ghost SERIES_ORDER_COUNTS = { false };
 
-    ghost series = { faults_series };
+    ghost PARALLEL_ORDER_COUNTS = { false };
 
-    ghost parallel = { faults_parallel };
+    ghost compared = { word_compared };
+
+    ghost series = { union };
+
+    ghost parallel = { intersection };
 
     ghost bridge = { faults_bridge };
 
     ghost meets = { faults_meets };
 
-    ghost series_ordered = { false };
+    ghost same_identical = { compared_same };
 
-    ghost parallel_ordered = { false };
+    ghost identical_same = { compared_itself };
 
-    ghost same_identical = { λ a b h. faults_same a b (numeric_equal a.classes b.classes h) };
+    ghost swapped = { compared_swapped };
 
-    ghost identical_same = { λ a. numeric_itself a.classes };
+    ghost less_transitive = { compared_less };
 
-    ghost swapped = { λ a b. numeric_swapped a.classes b.classes };
+    ghost series_associative = { union_assoc };
 
-    ghost less_transitive = { λ a b c. numeric_less a.classes b.classes c.classes };
+    ghost parallel_associative = { intersection_assoc };
 
-    ghost series_associative = { λ a b c. faults_same _ _ (or_assoc a.classes b.classes c.classes) };
+    ghost series_commutative = { λ e. union_comm };
 
-    ghost parallel_associative = { λ a b c. faults_same _ _ (and_assoc a.classes b.classes c.classes) };
-
-    ghost series_commutative = { λ e a b. faults_same _ _ (or_comm a.classes b.classes) };
-
-    ghost parallel_commutative = { λ e a b. faults_same _ _ (and_comm a.classes b.classes) };
-
-    fn series_ordered() -> bool {
-        Self::SERIES_ORDER_COUNTS
-    }
-
-    fn parallel_ordered() -> bool {
-        Self::PARALLEL_ORDER_COUNTS
-    }
+    ghost parallel_commutative = { λ e. intersection_comm };
 
     fn order(self, other: FaultSet) -> Ordering {
-        self.classes.cmp(&other.classes)
+        self.cmp(&other)
     }
 
     fn in_series(self, other: FaultSet) -> FaultSet {
-        FaultSet::new(self.classes | other.classes)
+        self.union(other)
     }
 
     fn in_parallel(self, other: FaultSet) -> FaultSet {
-        FaultSet::new(self.classes & other.classes)
+        self.intersection(other)
     }
 
     fn in_bridge(a: FaultSet, b: FaultSet, c: FaultSet, d: FaultSet, e: FaultSet) -> FaultSet {
-        let upper = a.classes | d.classes;
-        let lower = b.classes | e.classes;
-        let down = a.classes | c.classes | e.classes;
-        let up = b.classes | c.classes | d.classes;
-        FaultSet::new(upper & lower & down & up)
+        let upper = a.union(d);
+        let lower = b.union(e);
+        let down = a.union(c).union(e);
+        let up = b.union(c).union(d);
+        upper
+            .intersection(lower)
+            .intersection(down)
+            .intersection(up)
     }
 
     fn satisfies(self, demand: FaultSet) -> bool {
-        self.classes & demand.classes == self.classes
+        self.intersection(demand) == self
     }
 }

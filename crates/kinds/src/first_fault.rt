@@ -1,9 +1,8 @@
 // First fault: the number of the fault met first; 0 is healthy. Order counts.
-ghost use Rattle.std.specs.Prelude.{◌≡◌, true};
-ghost use Rattle.kinds.specs.Holding.{Holds};
-ghost use Rattle.kinds.specs.FirstFaults.{fault_number, first_compared, first_series, first_parallel, first_bridge, first_meets};
-ghost use Rattle.kinds.specs.Same.{first_same};
-ghost use Rattle.kinds.specs.Numeric.{numeric_equal, numeric_itself, numeric_swapped, numeric_less};
+ghost use Rattle.std.specs.Prelude.{true};
+ghost use Rattle.kinds.specs.FirstFaults.{first_series, first_parallel, first_bridge, first_meets};
+ghost use Rattle.kinds.specs.Words.{word_compared};
+ghost use Rattle.kinds.specs.WordLaws.{compared_same, compared_itself, compared_swapped, compared_less};
 ghost use Rattle.std.proofs.Common.{rules};
 
 use crate::performance::Performance;
@@ -11,23 +10,13 @@ use crate::values::FirstFault;
 use std::cmp::Ordering;
 
 impl FirstFault {
-    pub fn new(fault: u32) -> FirstFault
-        ensures { Holds fault_number fault result }
-    {
-        FirstFault::holding(fault)
-    }
+    ghost use Rattle.std.specs.Prelude.{◌≡◌};
+    ghost use Rattle.kinds.specs.Words.{holds_number};
 
-    pub fn fault(self) -> u32
-        ensures { result ≡ fault_number self }
+    fn is_healthy(self) -> bool
+        ensures { result ≡ holds_number 0 self }
     {
-        self.fault
-    }
-
-    // The one place where a value is made.
-    fn holding(fault: u32) -> FirstFault
-        ensures { Holds fault_number fault result }
-    {
-        FirstFault { fault }
+        self.number() == 0
     }
 }
 
@@ -36,7 +25,11 @@ impl Performance for FirstFault {
 
     const PARALLEL_ORDER_COUNTS: bool = true;
 
-    ghost compared = { first_compared };
+    ghost SERIES_ORDER_COUNTS = { true };
+
+    ghost PARALLEL_ORDER_COUNTS = { true };
+
+    ghost compared = { word_compared };
 
     ghost series = { first_series };
 
@@ -46,17 +39,13 @@ impl Performance for FirstFault {
 
     ghost meets = { first_meets };
 
-    ghost series_ordered = { true };
+    ghost same_identical = { compared_same };
 
-    ghost parallel_ordered = { true };
+    ghost identical_same = { compared_itself };
 
-    ghost same_identical = { λ a b h. first_same a b (numeric_equal a.fault b.fault h) };
+    ghost swapped = { compared_swapped };
 
-    ghost identical_same = { λ a. numeric_itself a.fault };
-
-    ghost swapped = { λ a b. numeric_swapped a.fault b.fault };
-
-    ghost less_transitive = { λ a b c. numeric_less a.fault b.fault c.fault };
+    ghost less_transitive = { compared_less };
 
     ghost series_associative = { Prim.search rules };
 
@@ -66,24 +55,16 @@ impl Performance for FirstFault {
 
     ghost parallel_commutative = { Prim.search rules };
 
-    fn series_ordered() -> bool {
-        Self::SERIES_ORDER_COUNTS
-    }
-
-    fn parallel_ordered() -> bool {
-        Self::PARALLEL_ORDER_COUNTS
-    }
-
     fn order(self, other: FirstFault) -> Ordering {
-        self.fault.cmp(&other.fault)
+        self.cmp(&other)
     }
 
     fn in_series(self, other: FirstFault) -> FirstFault {
-        if self.fault == 0 { other } else { self }
+        if self.is_healthy() { other } else { self }
     }
 
     fn in_parallel(self, other: FirstFault) -> FirstFault {
-        if self.fault != 0 && other.fault == 0 {
+        if !self.is_healthy() && other.is_healthy() {
             other
         } else {
             self
@@ -105,6 +86,6 @@ impl Performance for FirstFault {
     }
 
     fn satisfies(self, demand: FirstFault) -> bool {
-        self.fault == 0 || self.fault == demand.fault
+        self.is_healthy() || self == demand
     }
 }

@@ -12,6 +12,10 @@ impl<K: Performance> Performance for OrOut<K> {
 
     const PARALLEL_ORDER_COUNTS: bool = K::PARALLEL_ORDER_COUNTS;
 
+    ghost SERIES_ORDER_COUNTS = { K.Performance.SERIES_ORDER_COUNTS };
+
+    ghost PARALLEL_ORDER_COUNTS = { K.Performance.PARALLEL_ORDER_COUNTS };
+
     ghost compared = { out_compared K.Performance.compared };
 
     ghost series = { out_series K.Performance.series };
@@ -21,10 +25,6 @@ impl<K: Performance> Performance for OrOut<K> {
     ghost bridge = { out_bridge K.Performance.series K.Performance.parallel K.Performance.bridge };
 
     ghost meets = { out_meets K.Performance.meets };
-
-    ghost series_ordered = { K.Performance.series_ordered };
-
-    ghost parallel_ordered = { K.Performance.parallel_ordered };
 
     ghost same_identical = { Prim.search rules };
 
@@ -41,14 +41,6 @@ impl<K: Performance> Performance for OrOut<K> {
     ghost series_commutative = { λ e. series_comm K.Performance.series (K.Performance.series_commutative e) };
 
     ghost parallel_commutative = { λ e. parallel_comm K.Performance.parallel (K.Performance.parallel_commutative e) };
-
-    fn series_ordered() -> bool {
-        K::series_ordered()
-    }
-
-    fn parallel_ordered() -> bool {
-        K::parallel_ordered()
-    }
 
     fn order(self, other: Self) -> Ordering {
         match (self, other) {

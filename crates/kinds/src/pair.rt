@@ -13,6 +13,10 @@ impl<A: Performance, B: Performance> Performance for Pair<A, B> {
 
     const PARALLEL_ORDER_COUNTS: bool = A::PARALLEL_ORDER_COUNTS || B::PARALLEL_ORDER_COUNTS;
 
+    ghost SERIES_ORDER_COUNTS = { A.Performance.SERIES_ORDER_COUNTS || B.Performance.SERIES_ORDER_COUNTS };
+
+    ghost PARALLEL_ORDER_COUNTS = { A.Performance.PARALLEL_ORDER_COUNTS || B.Performance.PARALLEL_ORDER_COUNTS };
+
     ghost compared = { pair_compared A.Performance.compared B.Performance.compared };
 
     ghost series = { pair_joined A.Performance.series B.Performance.series };
@@ -22,10 +26,6 @@ impl<A: Performance, B: Performance> Performance for Pair<A, B> {
     ghost bridge = { pair_bridge A.Performance.bridge B.Performance.bridge };
 
     ghost meets = { pair_meets A.Performance.meets B.Performance.meets };
-
-    ghost series_ordered = { A.Performance.series_ordered || B.Performance.series_ordered };
-
-    ghost parallel_ordered = { A.Performance.parallel_ordered || B.Performance.parallel_ordered };
 
     ghost same_identical = { Prim.search rules };
 
@@ -43,19 +43,10 @@ impl<A: Performance, B: Performance> Performance for Pair<A, B> {
 
     ghost parallel_commutative = { Prim.search rules };
 
-    fn series_ordered() -> bool {
-        A::series_ordered() | B::series_ordered()
-    }
-
-    fn parallel_ordered() -> bool {
-        A::parallel_ordered() | B::parallel_ordered()
-    }
-
     fn order(self, other: Self) -> Ordering {
-        match self.first.order(other.first) {
-            Ordering::Equal => self.second.order(other.second),
-            unequal => unequal,
-        }
+        self.first
+            .order(other.first)
+            .then_with(|| self.second.order(other.second))
     }
 
     fn in_series(self, other: Self) -> Self {

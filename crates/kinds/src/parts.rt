@@ -1,84 +1,53 @@
 // Parts: how many of a whole. Sums and products stop at the top.
-ghost use Rattle.std.specs.Prelude.{◌≡◌};
-ghost use Rattle.kinds.specs.Holding.{Holds};
-ghost use Rattle.kinds.specs.Parts.{parts_count, parts_nothing, parts_sum, parts_product, parts_is_nothing};
-ghost use Rattle.kinds.specs.Capped.{top32};
-ghost use Rattle.kinds.specs.Caps.{sum_assoc, sum_comm, sum_zero, sum_none_both, product_assoc, product_comm, product_sum, product_zero};
-ghost use Rattle.kinds.specs.Fits.{fits_below};
-ghost use Rattle.kinds.specs.Same.{parts_same};
-ghost use Rattle.kinds.specs.declared.values.Parts.{Parts};
-ghost use Rattle.std.proofs.Common.{ap, refl};
-ghost use Rattle.std.proofs.lemmas.Bool.{eqb-true};
+ghost use Rattle.kinds.specs.Words.{zero_word, holds_number, word_sum, word_product};
+ghost use Rattle.kinds.specs.WordLaws.{only_zero, sum_assoc, sum_comm, sum_zero, sum_is_zero, product_assoc, product_comm, product_sum, product_zero};
+ghost use Rattle.std.proofs.Common.{refl};
 
-use crate::capped::cap;
 use crate::values::Parts;
 use crate::weight::Weight;
 
-impl Parts {
-    pub fn new(count: u32) -> Parts
-        ensures { Holds parts_count count result }
-    {
-        Parts::holding(count)
-    }
-
-    pub fn count(self) -> u32
-        ensures { result ≡ parts_count self }
-    {
-        self.count
-    }
-
-    // The one place where a value is made.
-    fn holding(count: u32) -> Parts
-        ensures { Holds parts_count count result }
-    {
-        Parts { count }
-    }
-}
-
 impl Weight for Parts {
-    ghost nothing = { parts_nothing };
+    ghost nothing = { zero_word };
 
-    ghost sum = { parts_sum };
+    ghost sum = { word_sum };
 
-    ghost product = { parts_product };
+    ghost product = { word_product };
 
-    ghost is_nothing = { parts_is_nothing };
+    ghost is_nothing = { holds_number 0 };
 
     ghost test_accepts_nothing = { refl };
 
-    ghost test_accepts_only_nothing = { λ a h. parts_same _ _ (eqb-true a.count 0 h) };
+    ghost test_accepts_only_nothing = { only_zero };
 
-    ghost sum_associative = { λ a b c. parts_same _ _ (sum_assoc top32 a.count b.count c.count) };
+    ghost sum_associative = { sum_assoc };
 
-    ghost sum_commutative = { λ a b. parts_same _ _ (sum_comm top32 a.count b.count) };
+    ghost sum_commutative = { sum_comm };
 
-    ghost sum_neutral = { λ a. parts_same _ _ (sum_zero top32 a.count (fits_below a.count a.fits)) };
+    ghost sum_neutral = { sum_zero };
 
-    ghost sum_none = { λ a b h.
-        let e = sum_none_both top32 a.count b.count (fits_below a.count a.fits) (fits_below b.count b.fits) (ap (λ (x : Parts). x.count) h) in
-        (parts_same _ _ e.0, parts_same _ _ e.1) };
+    ghost sum_none = { sum_is_zero };
 
-    ghost product_associative = { λ a b c. parts_same _ _ (product_assoc top32 a.count b.count c.count) };
+    ghost product_associative = { product_assoc };
 
-    ghost product_commutative = { λ a b. parts_same _ _ (product_comm top32 a.count b.count) };
+    ghost product_commutative = { product_comm };
 
-    ghost product_distributes = { λ a b c. parts_same _ _ (product_sum top32 a.count b.count c.count) };
+    ghost product_distributes = { product_sum };
 
-    ghost product_nothing = { λ a. parts_same _ _ (product_zero top32 a.count) };
+    ghost product_nothing = { product_zero };
 
     fn none() -> Parts {
         Parts::new(0)
     }
 
     fn plus(self, other: Parts) -> Parts {
-        Parts::new(cap(self.count as u64 + other.count as u64))
+        self.capped_sum(other)
     }
 
     fn times(self, other: Parts) -> Parts {
-        Parts::new(cap(self.count as u64 * other.count as u64))
+        self.capped_product(other)
     }
 
     fn is_nothing(self) -> bool {
-        self.count == 0
+        self.number() == 0
     }
 }

@@ -8,11 +8,15 @@ use std::cmp::Ordering;
 
 // The values of the kind are the values of the type. They are Copy: an operation refuses nothing and changes nothing.
 pub trait Performance: Copy {
-    // Whether the order of the operands counts. The laws do not cite these: the ghosts
-    // `series_ordered` and `parallel_ordered`, which the two methods answer, are binding.
+    // Whether the order of the operands counts, in series and in parallel; where it does not, a law says so. Each is
+    // given twice, as code and as a ghost, and the two are proved equal.
     const SERIES_ORDER_COUNTS: bool;
 
     const PARALLEL_ORDER_COUNTS: bool;
+
+    ghost SERIES_ORDER_COUNTS: { Bool };
+
+    ghost PARALLEL_ORDER_COUNTS: { Bool };
 
     ghost compared: { Self → Self → Ordering };
 
@@ -23,16 +27,6 @@ pub trait Performance: Copy {
     ghost bridge: { Self → Self → Self → Self → Self → Self };
     // a value held against a demand
     ghost meets: { Self → Self → Bool };
-
-    ghost series_ordered: { Bool };
-
-    ghost parallel_ordered: { Bool };
-
-    fn series_ordered() -> bool
-        ensures { result ≡ series_ordered };
-
-    fn parallel_ordered() -> bool
-        ensures { result ≡ parallel_ordered };
 
     fn order(self, other: Self) -> Ordering
         ensures { result ≡ compared self other };
@@ -61,7 +55,7 @@ pub trait Performance: Copy {
 
     ghost parallel_associative: { (a b c : Self) → parallel (parallel a b) c ≡ parallel a (parallel b c) };
 
-    ghost series_commutative: { series_ordered ≡ false → (a b : Self) → series a b ≡ series b a };
+    ghost series_commutative: { SERIES_ORDER_COUNTS ≡ false → (a b : Self) → series a b ≡ series b a };
 
-    ghost parallel_commutative: { parallel_ordered ≡ false → (a b : Self) → parallel a b ≡ parallel b a };
+    ghost parallel_commutative: { PARALLEL_ORDER_COUNTS ≡ false → (a b : Self) → parallel a b ≡ parallel b a };
 }

@@ -1,83 +1,53 @@
 // Scenarios: in which of 32 scenarios. The sum is the union, the product the intersection.
-ghost use Rattle.std.specs.Prelude.{◌≡◌};
-ghost use Rattle.kinds.specs.Holding.{Holds};
-ghost use Rattle.kinds.specs.Scenarios.{scenario_members, scenarios_nothing, scenarios_sum, scenarios_product, scenarios_is_nothing};
-ghost use Rattle.kinds.specs.Bitwise.{or_assoc, and_assoc, and_or, or_none};
-ghost use Rattle.kinds.specs.Same.{scenarios_same};
-ghost use Rattle.kinds.specs.declared.values.Scenarios.{Scenarios};
-ghost use Rattle.std.proofs.Common.{ap, refl};
-ghost use Rattle.std.proofs.lemmas.Bool.{eqb-true};
-ghost use Rattle.std.proofs.lemmas.Nat.{or_comm, and_comm};
-ghost use Rattle.std.specs.Int.Bits.{or_zero_l, and_zero_l};
+ghost use Rattle.kinds.specs.Words.{zero_word, holds_number, union, intersection};
+ghost use Rattle.kinds.specs.WordLaws.{only_zero, union_assoc, union_comm, union_none, union_is_none, intersection_assoc, intersection_comm, intersection_union, intersection_none};
+ghost use Rattle.std.proofs.Common.{refl};
 
 use crate::values::Scenarios;
 use crate::weight::Weight;
 
-impl Scenarios {
-    pub fn new(members: u32) -> Scenarios
-        ensures { Holds scenario_members members result }
-    {
-        Scenarios::holding(members)
-    }
-
-    pub fn members(self) -> u32
-        ensures { result ≡ scenario_members self }
-    {
-        self.members
-    }
-
-    // The one place where a value is made.
-    fn holding(members: u32) -> Scenarios
-        ensures { Holds scenario_members members result }
-    {
-        Scenarios { members }
-    }
-}
-
 impl Weight for Scenarios {
-    ghost nothing = { scenarios_nothing };
+    ghost nothing = { zero_word };
 
-    ghost sum = { scenarios_sum };
+    ghost sum = { union };
 
-    ghost product = { scenarios_product };
+    ghost product = { intersection };
 
-    ghost is_nothing = { scenarios_is_nothing };
+    ghost is_nothing = { holds_number 0 };
 
     ghost test_accepts_nothing = { refl };
 
-    ghost test_accepts_only_nothing = { λ a h. scenarios_same _ _ (eqb-true a.members 0 h) };
+    ghost test_accepts_only_nothing = { only_zero };
 
-    ghost sum_associative = { λ a b c. scenarios_same _ _ (or_assoc a.members b.members c.members) };
+    ghost sum_associative = { union_assoc };
 
-    ghost sum_commutative = { λ a b. scenarios_same _ _ (or_comm a.members b.members) };
+    ghost sum_commutative = { union_comm };
 
-    ghost sum_neutral = { λ a. scenarios_same _ _ (or_zero_l a.members) };
+    ghost sum_neutral = { union_none };
 
-    ghost sum_none = { λ a b h.
-        let e = or_none a.members b.members (ap (λ (x : Scenarios). x.members) h) in
-        (scenarios_same _ _ e.0, scenarios_same _ _ e.1) };
+    ghost sum_none = { union_is_none };
 
-    ghost product_associative = { λ a b c. scenarios_same _ _ (and_assoc a.members b.members c.members) };
+    ghost product_associative = { intersection_assoc };
 
-    ghost product_commutative = { λ a b. scenarios_same _ _ (and_comm a.members b.members) };
+    ghost product_commutative = { intersection_comm };
 
-    ghost product_distributes = { λ a b c. scenarios_same _ _ (and_or a.members b.members c.members) };
+    ghost product_distributes = { intersection_union };
 
-    ghost product_nothing = { λ a. scenarios_same _ _ (and_zero_l a.members) };
+    ghost product_nothing = { intersection_none };
 
     fn none() -> Scenarios {
         Scenarios::new(0)
     }
 
     fn plus(self, other: Scenarios) -> Scenarios {
-        Scenarios::new(self.members | other.members)
+        self.union(other)
     }
 
     fn times(self, other: Scenarios) -> Scenarios {
-        Scenarios::new(self.members & other.members)
+        self.intersection(other)
     }
 
     fn is_nothing(self) -> bool {
-        self.members == 0
+        self.number() == 0
     }
 }

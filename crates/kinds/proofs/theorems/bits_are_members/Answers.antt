@@ -5,5 +5,5 @@ pub returns : goal.returns
 returns c = record {
   union = union_has;
   intersection = intersection_has;
-  within = λ v w. meets_within v.classes w.classes;
+  within = λ v w. meets_within v.bits w.bits;
 }
