@@ -1,5 +1,5 @@
 -- The types of the named kinds and weights.
-use Rattle.kinds.specs.declared.values.Word.{Word}
+use Rattle.kinds.specs.declared.word.Word.{Word}
 use Rattle.kinds.specs.declared.values.Rate.{Rate}
 use Rattle.kinds.specs.declared.values.Time.{Time}
 use Rattle.kinds.specs.declared.values.Classes.{Classes}

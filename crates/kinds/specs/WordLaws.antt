@@ -18,7 +18,7 @@ use Rattle.kinds.specs.Caps as caps
 use Rattle.kinds.specs.Fits.{fits_below}
 use Rattle.kinds.specs.Holding.{Holds, Numbers32}
 use Rattle.kinds.specs.Words.{number, word, zero_word, top_word, holds_number, word_compared, smaller, capped_word, word_sum, word_product, union, intersection}
-use Rattle.kinds.specs.declared.values.Word.{Word}
+use Rattle.kinds.specs.declared.word.Word.{Word}
 
 -- two proofs of one bound, along an equation
 bound_path : {m n : ℕ} (p : m ≡ n) (top : ℕ) (h : m < top) (k : n < top) → PathP (λ i. p i < top) h k

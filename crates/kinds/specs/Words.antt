@@ -6,7 +6,7 @@ use Rattle.std.specs.Ordering.{nat_cmp}
 use Rattle.std.proofs.lemmas.Nat.{or_lt}
 use Rattle.kinds.specs.Capped.{top32, capped}
 use Rattle.kinds.specs.Fits.{capped_fits, min_fits, top_fits, zero_fits}
-use Rattle.kinds.specs.declared.values.Word.{Word}
+use Rattle.kinds.specs.declared.word.Word.{Word}
 
 module _ {Of : Type 0} where
   abbrev pub number : Word Of → ℕ

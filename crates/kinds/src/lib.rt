@@ -18,3 +18,4 @@ mod tests;
 pub mod theorems;
 pub mod values;
 pub mod weight;
+pub mod word;

@@ -21,8 +21,8 @@ module _ {P : Type 0} (kind : Performance.Ghosts P) where
   joins Parallel = kind.parallel
 
   abbrev pub ordered : Way → Bool
-  ordered Series = kind.series_ordered
-  ordered Parallel = kind.parallel_ordered
+  ordered Series = kind.SERIES_ORDER_COUNTS
+  ordered Parallel = kind.PARALLEL_ORDER_COUNTS
 
 module _ {P W : Type 0} (weights : Weight.Ghosts W) where
   -- one term of each of two lists, together

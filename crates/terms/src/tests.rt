@@ -31,8 +31,8 @@ fn rows_of_nothing_are_empty(rt: HostRuntime) {
     assert_eq!(rt; merge(&some, &mut room[0..0]), None);
     assert_eq!(rt; merge(&nothings, &mut room[0..0]), Some(0));
     let (met, total) = availability(&none, Flow::new(0));
-    assert_eq!(rt; met.count(), 0);
-    assert_eq!(rt; total.count(), 0);
+    assert_eq!(rt; met.number(), 0);
+    assert_eq!(rt; total.number(), 0);
 }
 
 #[test]
@@ -42,8 +42,8 @@ fn weights_stop_at_the_top(rt: HostRuntime) {
     let twice = [state(5, 2)];
     assert_eq!(rt; combine(Way::Series, &half, &twice, &mut room), Some(2));
     let (met, total) = availability(&room[0..2], Flow::new(3));
-    assert_eq!(rt; met.count(), 4294967295);
-    assert_eq!(rt; total.count(), 4294967295);
+    assert_eq!(rt; met.number(), 4294967295);
+    assert_eq!(rt; total.number(), 4294967295);
 }
 
 fn units() -> [State; 8] {
