@@ -10,3 +10,4 @@ pub mod Steps
 pub mod Readings
 pub mod EnumerationLaws
 pub mod ReadingLaws
+pub mod Shown

@@ -1,8 +1,22 @@
+// Terms, and how far a room is filled with them.
+ghost use Rattle.terms.specs.Shown.{term_output};
+
+use std::fmt;
+
 // A performance and its weight.
 #[derive(Clone, Copy, PartialEq, Eq, Debug)]
 pub struct Term<P, W> {
     pub performance: P,
     pub weight: W,
+}
+
+// As performance:weight.
+impl<P: fmt::Display, W: fmt::Display> fmt::Display for Term<P, W> {
+    ghost output = { λ t. term_output (P.output t.performance) (W.output t.weight) };
+
+    fn fmt<O: fmt::Write>(&self, f: &mut fmt::Formatter<O>) -> fmt::Result {
+        write!(f, "{}:{}", self.performance, self.weight)
+    }
 }
 
 // How two lists are combined.

@@ -1,13 +1,12 @@
 -- Rows found by computing.
 use Rattle.std.proofs.Common.{◌≡◌, ℕ, List, [], ◌∷◌, refl, ap, ◌∙◌, subst}
 use mathlib.Core.List.Permᴰ
-use Rattle.kinds.specs.declared.values.Flow.{Flow}
-use Rattle.kinds.specs.declared.values.Parts.{Parts}
+use Rattle.kinds.specs.Named.{Flow, Parts}
 use Rattle.kinds.specs.contracts.flow.FlowPerformance.TheImpl as flow_kind
 use Rattle.kinds.specs.contracts.parts.PartsWeight.TheImpl as parts_weight
 use Rattle.kinds.proofs.FlowLaws.{flow_laws}
 use Rattle.kinds.proofs.PartsLaws.{parts_laws}
-use Rattle.kinds.specs.Same.{flow_same, parts_same}
+use Rattle.kinds.specs.WordLaws.{word_same}
 use Rattle.terms.specs.declared.term.Term.{Term}
 use Rattle.terms.proofs.Canonical.{canon, canon_row}
 use Rattle.terms.specs.declared.term.Way.TheVariants.{Series, Parallel}
@@ -24,15 +23,15 @@ abbrev pub Alike : List (Term Flow Parts) → List (Term Flow Parts) → Type 0
 Alike [] [] = Unit {0}
 Alike [] (y ∷ ys) = ⊥
 Alike (x ∷ xs) [] = ⊥
-Alike (x ∷ xs) (y ∷ ys) = (x.performance.rate ≡ y.performance.rate) × (x.weight.count ≡ y.weight.count) × Alike xs ys
+Alike (x ∷ xs) (y ∷ ys) = (x.performance.bits ≡ y.performance.bits) × (x.weight.bits ≡ y.weight.bits) × Alike xs ys
 
 alike_same : (xs ys : List (Term Flow Parts)) → Alike xs ys → xs ≡ ys
 alike_same [] [] h = refl
 alike_same [] (y ∷ ys) h = absurd h
 alike_same (x ∷ xs) [] h = absurd h
 alike_same (x ∷ xs) (y ∷ ys) h =
-    let p = flow_same x.performance y.performance h.0 in
-    let w = parts_same x.weight y.weight h.1 in
+    let p = word_same x.performance y.performance h.0 in
+    let w = word_same x.weight y.weight h.1 in
     ap (λ z. z ∷ xs) (ap (λ z. record { performance = z; weight = x.weight }) p ∙ ap (λ z. record { performance = y.performance; weight = z }) w)
     ∙ ap (λ zs. y ∷ zs) (alike_same xs ys h.2)
 

@@ -1,22 +1,15 @@
 -- Values of kinds, weights and rows, worked by hand.
-use Rattle.std.specs.Prelude.{◌≡◌, ℕ, min, List, [], ◌∷◌}
+use Rattle.std.specs.Prelude.{◌≡◌, ℕ, List, [], ◌∷◌}
 use Rattle.kinds.specs.Capped.{top32}
-use Rattle.kinds.specs.Fits.{capped_fits}
-use Rattle.kinds.specs.Flows.{flow_series, flow_parallel, flow_bridge}
+use Rattle.kinds.specs.Named.{Flow, Delay, FaultSet, FirstFault, Parts, Scenarios}
+use Rattle.kinds.specs.Words.{zero_word, capped_word, smaller, word_sum, word_product, intersection}
+use Rattle.kinds.specs.Flows.{flow_bridge}
 use Rattle.kinds.specs.Delays.{delay_bridge}
 use Rattle.kinds.specs.FaultSets.{faults_bridge}
 use Rattle.kinds.specs.FirstFaults.{first_series, first_parallel}
 use Rattle.kinds.specs.Outs.{out_bridge}
-use Rattle.kinds.specs.Parts.{parts_product}
-use Rattle.kinds.specs.Scenarios.{scenarios_product, scenarios_nothing}
-use Rattle.kinds.specs.declared.values.Flow.{Flow}
-use Rattle.kinds.specs.declared.values.Delay.{Delay}
-use Rattle.kinds.specs.declared.values.FaultSet.{FaultSet}
-use Rattle.kinds.specs.declared.values.FirstFault.{FirstFault}
 use Rattle.kinds.specs.declared.values.OrOut.{OrOut}
 use Rattle.kinds.specs.declared.values.OrOut.TheVariants.{Out, Working}
-use Rattle.kinds.specs.declared.values.Parts.{Parts}
-use Rattle.kinds.specs.declared.values.Scenarios.{Scenarios}
 use Rattle.kinds.specs.contracts.flow.FlowPerformance.TheImpl as flow_kind
 use Rattle.kinds.specs.contracts.delay.DelayPerformance.TheImpl as delay_kind
 use Rattle.kinds.specs.contracts.first_fault.FirstFaultPerformance.TheImpl as first_kind
@@ -33,22 +26,22 @@ use Rattle.terms.specs.Readings.{ReadSame}
 
 -- the value of a number; no number below is past the top
 abbrev pub flow : ℕ → Flow
-flow n = record { rate = min n top32; fits = capped_fits n }
+flow = capped_word
 
 abbrev delay : ℕ → Delay
-delay n = record { time = min n top32; fits = capped_fits n }
+delay = capped_word
 
 abbrev faults : ℕ → FaultSet
-faults n = record { classes = min n top32; fits = capped_fits n }
+faults = capped_word
 
 abbrev fault : ℕ → FirstFault
-fault n = record { fault = min n top32; fits = capped_fits n }
+fault = capped_word
 
 abbrev pub parts : ℕ → Parts
-parts n = record { count = min n top32; fits = capped_fits n }
+parts = capped_word
 
 abbrev pub scenarios : ℕ → Scenarios
-scenarios n = record { members = min n top32; fits = capped_fits n }
+scenarios = capped_word
 
 abbrev service : ℕ → OrOut Flow
 service n = Working (flow n)
@@ -100,26 +93,26 @@ abbrev sure : {P : Type 0} → P → Term P Parts
 sure p = record { performance = p; weight = parts 1 }
 
 pub record Examples : Type 0 where
-  pub flows_in_series : flow_series (flow 3) (flow 5) ≡ flow 3
-  pub flows_in_parallel : flow_parallel (flow 3) (flow 5) ≡ flow 8
-  pub flow_stops_at_the_top : flow_parallel (flow top32) (flow 1) ≡ flow top32
+  pub flows_in_series : smaller (flow 3) (flow 5) ≡ flow 3
+  pub flows_in_parallel : word_sum (flow 3) (flow 5) ≡ flow 8
+  pub flow_stops_at_the_top : word_sum (flow top32) (flow 1) ≡ flow top32
   pub flow_over_a_bridge : flow_bridge (flow 1) (flow 4) (flow 10) (flow 2) (flow 9) ≡ flow 5
   pub delay_over_a_bridge : delay_bridge (delay 1) (delay 4) (delay 10) (delay 2) (delay 9) ≡ delay 3
   pub faults_over_a_bridge : faults_bridge (faults 1) (faults 2) (faults 0) (faults 4) (faults 1) ≡ faults 0
   pub healthy_then_faulty : first_series (fault 0) (fault 7) ≡ fault 7
   pub both_faulty : first_parallel (fault 4) (fault 7) ≡ fault 4
   pub one_healthy : first_parallel (fault 4) (fault 0) ≡ fault 0
-  pub an_arm_out : out_bridge flow_series flow_parallel flow_bridge Out (service 4) (service 3) (service 9) (service 2) ≡ service 4
+  pub an_arm_out : out_bridge smaller word_sum flow_bridge Out (service 4) (service 3) (service 9) (service 2) ≡ service 4
   pub likes_are_added : HasRow (3 at 4 ∷ 0 at 1 ∷ 3 at 5 ∷ []) (0 at 1 ∷ 3 at 9 ∷ [])
   pub nothing_is_left_out : HasRow (3 at 0 ∷ 0 at 2 ∷ []) (0 at 2 ∷ [])
-  pub parts_stop_at_the_top : parts_product (parts 2147483648) (parts 2) ≡ parts top32
-  pub scenarios_apart : scenarios_product (scenarios 3) (scenarios 12) ≡ scenarios_nothing
+  pub parts_stop_at_the_top : word_product (parts 2147483648) (parts 2) ≡ parts top32
+  pub scenarios_apart : intersection (scenarios 3) (scenarios 12) ≡ zero_word
   pub no_term_of_scenarios_apart :
       RowOf flow_kind.ghosts scenarios_weight.ghosts
-      (combinations scenarios_weight.ghosts flow_series (record { performance = flow 1; weight = scenarios 3 } ∷ []) (record { performance = flow 1; weight = scenarios 12 } ∷ []))
+      (combinations scenarios_weight.ghosts smaller (record { performance = flow 1; weight = scenarios 3 } ∷ []) (record { performance = flow 1; weight = scenarios 12 } ∷ []))
       []
-  pub pumps_in_parallel : HasRow (combinations parts_weight.ghosts flow_parallel pump_a pump_b) pumps
-  pub plant_in_series : HasRow (combinations parts_weight.ghosts flow_series pumps pipe) plant
+  pub pumps_in_parallel : HasRow (combinations parts_weight.ghosts word_sum pump_a pump_b) pumps
+  pub plant_in_series : HasRow (combinations parts_weight.ghosts smaller pumps pipe) plant
   pub need_of_three : met_of flow_kind.ghosts parts_weight.ghosts (flow 3) plant ≡ parts 630
   pub need_of_five : met_of flow_kind.ghosts parts_weight.ghosts (flow 5) plant ≡ parts 0
   pub everything : total_of parts_weight.ghosts plant ≡ parts 1000

@@ -1,3 +1,4 @@
 pub mod Binaries
 pub mod Examples
 pub mod Lines
+pub mod Plants

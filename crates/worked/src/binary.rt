@@ -12,6 +12,10 @@ impl Performance for Service {
 
     const PARALLEL_ORDER_COUNTS: bool = false;
 
+    ghost SERIES_ORDER_COUNTS = { false };
+
+    ghost PARALLEL_ORDER_COUNTS = { false };
+
     ghost compared = { binary_compared };
 
     ghost series = { both };
@@ -21,10 +25,6 @@ impl Performance for Service {
     ghost bridge = { binary_bridge };
 
     ghost meets = { binary_meets };
-
-    ghost series_ordered = { false };
-
-    ghost parallel_ordered = { false };
 
     ghost same_identical = { Prim.search rules };
 
@@ -42,34 +42,16 @@ impl Performance for Service {
 
     ghost parallel_commutative = { Prim.search rules };
 
-    fn series_ordered() -> bool {
-        Self::SERIES_ORDER_COUNTS
-    }
-
-    fn parallel_ordered() -> bool {
-        Self::PARALLEL_ORDER_COUNTS
-    }
-
     fn order(self, other: Service) -> Ordering {
-        match (self, other) {
-            (Service::Down, Service::Up) => Ordering::Less,
-            (Service::Up, Service::Down) => Ordering::Greater,
-            _ => Ordering::Equal,
-        }
+        self.cmp(&other)
     }
 
     fn in_series(self, other: Service) -> Service {
-        match self {
-            Service::Down => Service::Down,
-            Service::Up => other,
-        }
+        self.min(other)
     }
 
     fn in_parallel(self, other: Service) -> Service {
-        match self {
-            Service::Down => other,
-            Service::Up => Service::Up,
-        }
+        self.max(other)
     }
 
     fn in_bridge(a: Service, b: Service, c: Service, d: Service, e: Service) -> Service {
@@ -82,9 +64,6 @@ impl Performance for Service {
     }
 
     fn satisfies(self, demand: Service) -> bool {
-        match (self, demand) {
-            (Service::Down, Service::Up) => false,
-            _ => true,
-        }
+        self >= demand
     }
 }

@@ -1,5 +1,5 @@
 // A part runs or does not.
-#[derive(Clone, Copy)]
+#[derive(Clone, Copy, PartialEq, Eq, PartialOrd, Ord)]
 pub enum Service {
     Down,
     Up,

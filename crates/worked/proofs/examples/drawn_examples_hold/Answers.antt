@@ -1,5 +1,5 @@
 use Rattle.std.proofs.Common.{refl}
-use Rattle.kinds.specs.Same.{delay_same, first_same}
+use Rattle.kinds.specs.WordLaws.{word_same}
 use Rattle.worked.proofs.Computed.{row_by_computing, redrawn_same}
 use Rattle.worked.proofs.examples.drawn_examples_hold.Goals as goal
 
@@ -9,6 +9,6 @@ returns c = record {
   redrawn_by_enumeration = row_by_computing _ _ (refl, refl, (refl, refl, (refl, refl, (refl, refl, tt))));
   redrawn_reads_the_same = redrawn_same;
   one_pump_at_two_places = row_by_computing _ _ (refl, refl, (refl, refl, tt));
-  a_combination_of_a_bridge = delay_same _ _ refl;
-  a_combination_from_the_left = first_same _ _ refl;
+  a_combination_of_a_bridge = word_same _ _ refl;
+  a_combination_from_the_left = word_same _ _ refl;
 }
