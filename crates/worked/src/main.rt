@@ -1,11 +1,11 @@
 // A small plant from start to end: two pumps in parallel, then a pipe in series.
 #![tactic(auto)]
 
-ghost use Rattle.std.specs.Prelude.{◌≡◌, IfOk, take};
+ghost use Rattle.std.specs.Prelude.{◌≡◌, IfOk, MatchResult, take};
 ghost use Rattle.kinds.specs.Holding.{Holds};
 ghost use Rattle.kinds.specs.Words.{number};
 ghost use Rattle.terms.specs.declared.term.Way.TheVariants.{Series, Parallel};
-ghost use Rattle.worked.specs.Plants.{JoinedIn};
+ghost use Rattle.worked.specs.Plants.{JoinedIn, TooLong};
 
 use anyhow::Context;
 use kinds::performance::Performance;
@@ -60,7 +60,7 @@ fn joined<P: Performance>(
     room: &mut [Term<P, Parts>],
     what: &str,
 ) -> anyhow::Result<usize>
-    ensures { IfOk result (JoinedIn P.Performance way xs.now ys.now room.new) }
+    ensures { MatchResult result (JoinedIn P.Performance way xs.now ys.now room.new) (λ _. TooLong P.Performance way xs.now ys.now room.new) }
 {
     combine(way, xs, ys, room).context(format_args!("the row of {what} has too many terms"))
 }
