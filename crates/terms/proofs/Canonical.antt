@@ -31,10 +31,10 @@ module _ {P W : Type 0} (kind : Performance.Ghosts P) (weights : Weight.Ghosts W
   abbrev pub grown_by : Term P W → W → Term P W
   grown_by x v = term x.performance (weights.sum x.weight v)
 
-  -- a term put into a row, as a carried term goes past each place
+  -- a term put into a row: added to the one of its performance, or between the lesser and the greater ones
   abbrev pub put_in : Term P W → List (Term P W) → List (Term P W)
   put_in t [] = t ∷ []
-  put_in t (x ∷ xs) = by_order (kind.compared x.performance t.performance) (x ∷ put_in t xs) (grown_by x t.weight ∷ xs) (t ∷ put_in x xs)
+  put_in t (x ∷ xs) = by_order (kind.compared x.performance t.performance) (x ∷ put_in t xs) (grown_by x t.weight ∷ xs) (t ∷ x ∷ xs)
 
   abbrev pub merge_in : Term P W → List (Term P W) → List (Term P W)
   merge_in t r = cond (weights.is_nothing t.weight) r (put_in t r)
@@ -52,7 +52,7 @@ module _ {P W : Type 0} (kind : Performance.Ghosts P) (weights : Weight.Ghosts W
       by_cases (kind.compared x.performance t.performance)
       (λ e. rw e (let h = put_in_longer t xs in omega arith))
       (λ e. rw e (omega arith))
-      (λ e. rw e (let h = put_in_longer x xs in omega arith))
+      (λ e. rw e (omega arith))
 
   merge_in_longer : (t : Term P W) (r : List (Term P W)) → length r ≤ length (merge_in t r)
   merge_in_longer t r = by_test (weights.is_nothing t.weight) (λ e. rw e (omega arith)) (λ e. rw e (put_in_longer t r))
@@ -75,14 +75,14 @@ module _ {P W : Type 0} {kind : Performance.Ghosts P} {weights : Weight.Ghosts W
   abbrev total : (T → W) → List T → W
   total = sum_over weights
 
-  greater_less : (a b : P) → kind.compared a b ≡ Greater → kind.compared b a ≡ Less
+  pub greater_less : (a b : P) → kind.compared a b ≡ Greater → kind.compared b a ≡ Less
   greater_less a b e = k.swaps a b ∙ ap ordering_reverse e
 
-  less_greater : (a b : P) → kind.compared a b ≡ Less → kind.compared b a ≡ Greater
+  pub less_greater : (a b : P) → kind.compared a b ≡ Less → kind.compared b a ≡ Greater
   less_greater a b e = k.swaps a b ∙ ap ordering_reverse e
 
   -- a term and another of a like performance
-  pub term_like : (x t : T) → kind.compared x.performance t.performance ≡ Equal → term x.performance t.weight ≡ t
+  term_like : (x t : T) → kind.compared x.performance t.performance ≡ Equal → term x.performance t.weight ≡ t
   term_like x t e = ap (λ p. term p t.weight) (k.same_only x.performance t.performance e)
 
   nothing_term : (t : T) → weights.is_nothing t.weight ≡ true → term t.performance weights.nothing ≡ t
@@ -96,7 +96,7 @@ module _ {P W : Type 0} {kind : Performance.Ghosts P} {weights : Weight.Ghosts W
       by_cases (kind.compared x.performance t.performance)
       (λ e. rw e (ap (λ z. gives x ⊕ z) (sum_put_in gives a t xs) ∙ left_comm w (gives x) (gives t) (total gives xs)))
       (λ e. rw e (ap (λ z. z ⊕ total gives xs) (a.more x.performance x.weight t.weight ∙ ap (λ z. gives x ⊕ gives z) (term_like x t e)) ∙ w.sum_assoc (gives x) (gives t) (total gives xs) ∙ left_comm w (gives x) (gives t) (total gives xs)))
-      (λ e. rw e (ap (λ z. gives t ⊕ z) (sum_put_in gives a x xs)))
+      (λ e. rw e refl)
 
   pub sum_merge_in : (gives : T → W) → Additive weights gives → (t : T) (r : List T) → total gives (merge_in kind weights t r) ≡ gives t ⊕ total gives r
   sum_merge_in gives a t r =
@@ -138,9 +138,9 @@ module _ {P W : Type 0} {kind : Performance.Ghosts P} {weights : Weight.Ghosts W
       by_cases (kind.compared x.performance t.performance)
       (λ c. rw c (h.0, above_put_in p t xs e h.1))
       (λ c. rw c (h.0, h.1))
-      (λ c. rw c (e, above_put_in p x xs h.0 h.1))
+      (λ c. rw c (e, h))
 
-  pub something_sum : (u v : W) → weights.is_nothing u ≡ false → weights.is_nothing (u ⊕ v) ≡ false
+  something_sum : (u v : W) → weights.is_nothing u ≡ false → weights.is_nothing (u ⊕ v) ≡ false
   something_sum u v h =
       by_test (weights.is_nothing (u ⊕ v))
       (λ e. absurd (clash (ap weights.is_nothing (w.no_cancelling u v (w.only_nothing (u ⊕ v) e)).0 ∙ w.nothing_is) h))
@@ -152,7 +152,7 @@ module _ {P W : Type 0} {kind : Performance.Ghosts P} {weights : Weight.Ghosts W
       by_cases (kind.compared x.performance t.performance)
       (λ c. rw c (h.0, above_put_in x.performance t xs c h.1, row_put_in t xs n h.2))
       (λ c. rw c (something_sum x.weight t.weight h.0, h.1, h.2))
-      (λ c. rw c (n, above_put_in t.performance x xs (greater_less _ _ c) (above_trans t.performance x.performance xs (greater_less _ _ c) h.1), row_put_in x xs h.0 h.2))
+      (λ c. rw c (n, (greater_less _ _ c, above_trans t.performance x.performance xs (greater_less _ _ c) h.1), h))
 
   pub row_merge_in : (t : T) (r : List T) → IsRow kind weights r → IsRow kind weights (merge_in kind weights t r)
   row_merge_in t r h = by_test (weights.is_nothing t.weight) (λ e. rw e h) (λ e. rw e (row_put_in t r e h))

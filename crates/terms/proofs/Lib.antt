@@ -1,6 +1,5 @@
 pub mod Summing
 pub mod Canonical
-pub mod Passing
 pub mod Placing
 pub mod Looping
 pub mod Voiding

@@ -1,5 +1,6 @@
 pub mod Rows
 pub mod Merging
+pub mod Growing
 pub mod Combinations
 pub mod Picking
 pub mod Sums

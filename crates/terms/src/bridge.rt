@@ -1,12 +1,11 @@
 // The row of all the combinations of the five arms of a bridge.
-ghost use Rattle.std.specs.Prelude.{◌≤◌, length, take};
-ghost use Rattle.terms.specs.Rows.{IsRow};
-ghost use Rattle.terms.specs.Merging.{Merges, MergesOnto, length_in};
+ghost use Rattle.terms.specs.Merging.{Merges};
+ghost use Rattle.terms.specs.Growing.{Grows};
 ghost use Rattle.terms.specs.Combinations.{bridges};
 ghost use Rattle.terms.specs.Picking.{from_b, from_c, from_d, from_e};
 
-use crate::merge::put;
-use crate::term::{Filled, Term};
+use crate::row::Row;
+use crate::term::Term;
 use kinds::performance::Performance;
 use kinds::weight::Weight;
 
@@ -21,40 +20,19 @@ pub fn bridge<P: Performance, W: Weight>(
 ) -> Option<usize>
     ensures { Merges P.Performance W.Weight (bridges P.Performance W.Weight arm_a.now arm_b.now arm_c.now arm_d.now arm_e.now) room.new result }
 {
-    match pick_a(arm_a, arm_b, arm_c, arm_d, arm_e, room) {
-        Some(filled) => Some(filled.len),
-        None => None,
-    }
-}
-
-// Every a with all of b to e.
-fn pick_a<P: Performance, W: Weight>(
-    arm_a: &[Term<P, W>],
-    arm_b: &[Term<P, W>],
-    arm_c: &[Term<P, W>],
-    arm_d: &[Term<P, W>],
-    arm_e: &[Term<P, W>],
-    room: &mut [Term<P, W>],
-) -> Option<Filled>
-    ensures { Merges P.Performance W.Weight (bridges P.Performance W.Weight arm_a.now arm_b.now arm_c.now arm_d.now arm_e.now) room.new (length_in result) }
-{
-    let mut filled = Filled { len: 0, last: 0 };
+    let mut row = Row::empty(room);
     for a in arm_a {
-        match pick_b(
+        pick_b(
             a.performance,
             a.weight,
             arm_b,
             arm_c,
             arm_d,
             arm_e,
-            room,
-            filled,
-        ) {
-            Some(more) => filled = more,
-            None => return None,
-        }
+            &mut row,
+        )?;
     }
-    Some(filled)
+    Some(row.len)
 }
 
 // Arm a picked: every b with all of c to e.
@@ -65,30 +43,22 @@ fn pick_b<P: Performance, W: Weight>(
     arm_c: &[Term<P, W>],
     arm_d: &[Term<P, W>],
     arm_e: &[Term<P, W>],
-    room: &mut [Term<P, W>],
-    start: Filled,
-) -> Option<Filled>
-    requires fits { start.len ≤ length room.old }
-    requires row { IsRow P.Performance W.Weight (take start.len room.old) }
-    ensures { MergesOnto P.Performance W.Weight (from_b P.Performance W.Weight a weight arm_b.now arm_c.now arm_d.now arm_e.now) start.len room.old room.new (length_in result) }
+    row: &mut Row<P, W>,
+) -> Option<()>
+    ensures { Grows P.Performance W.Weight (from_b P.Performance W.Weight a weight arm_b.now arm_c.now arm_d.now arm_e.now) row.old row.new result }
 {
-    let mut filled = start;
     for b in arm_b {
-        match pick_c(
+        pick_c(
             a,
             b.performance,
             weight.times(b.weight),
             arm_c,
             arm_d,
             arm_e,
-            room,
-            filled,
-        ) {
-            Some(more) => filled = more,
-            None => return None,
-        }
+            row,
+        )?;
     }
-    Some(filled)
+    Some(())
 }
 
 // Arms a and b picked, `weight` the product of theirs: every c with all of d and e.
@@ -99,33 +69,25 @@ fn pick_c<P: Performance, W: Weight>(
     arm_c: &[Term<P, W>],
     arm_d: &[Term<P, W>],
     arm_e: &[Term<P, W>],
-    room: &mut [Term<P, W>],
-    start: Filled,
-) -> Option<Filled>
-    requires fits { start.len ≤ length room.old }
-    requires row { IsRow P.Performance W.Weight (take start.len room.old) }
-    ensures { MergesOnto P.Performance W.Weight (from_c P.Performance W.Weight a b weight arm_c.now arm_d.now arm_e.now) start.len room.old room.new (length_in result) }
+    row: &mut Row<P, W>,
+) -> Option<()>
+    ensures { Grows P.Performance W.Weight (from_c P.Performance W.Weight a b weight arm_c.now arm_d.now arm_e.now) row.old row.new result }
 {
     if weight.is_nothing() {
-        return Some(start);
+        return Some(());
     }
-    let mut filled = start;
     for c in arm_c {
-        match pick_d(
+        pick_d(
             a,
             b,
             c.performance,
             weight.times(c.weight),
             arm_d,
             arm_e,
-            room,
-            filled,
-        ) {
-            Some(more) => filled = more,
-            None => return None,
-        }
+            row,
+        )?;
     }
-    Some(filled)
+    Some(())
 }
 
 // Arms a to c picked: every d with all of e.
@@ -136,33 +98,25 @@ fn pick_d<P: Performance, W: Weight>(
     weight: W,
     arm_d: &[Term<P, W>],
     arm_e: &[Term<P, W>],
-    room: &mut [Term<P, W>],
-    start: Filled,
-) -> Option<Filled>
-    requires fits { start.len ≤ length room.old }
-    requires row { IsRow P.Performance W.Weight (take start.len room.old) }
-    ensures { MergesOnto P.Performance W.Weight (from_d P.Performance W.Weight a b c weight arm_d.now arm_e.now) start.len room.old room.new (length_in result) }
+    row: &mut Row<P, W>,
+) -> Option<()>
+    ensures { Grows P.Performance W.Weight (from_d P.Performance W.Weight a b c weight arm_d.now arm_e.now) row.old row.new result }
 {
     if weight.is_nothing() {
-        return Some(start);
+        return Some(());
     }
-    let mut filled = start;
     for d in arm_d {
-        match pick_e(
+        pick_e(
             a,
             b,
             c,
             d.performance,
             weight.times(d.weight),
             arm_e,
-            room,
-            filled,
-        ) {
-            Some(more) => filled = more,
-            None => return None,
-        }
+            row,
+        )?;
     }
-    Some(filled)
+    Some(())
 }
 
 // Arms a to d picked: every e.
@@ -173,26 +127,19 @@ fn pick_e<P: Performance, W: Weight>(
     d: P,
     weight: W,
     arm_e: &[Term<P, W>],
-    room: &mut [Term<P, W>],
-    start: Filled,
-) -> Option<Filled>
-    requires fits { start.len ≤ length room.old }
-    requires row { IsRow P.Performance W.Weight (take start.len room.old) }
-    ensures { MergesOnto P.Performance W.Weight (from_e P.Performance W.Weight a b c d weight arm_e.now) start.len room.old room.new (length_in result) }
+    row: &mut Row<P, W>,
+) -> Option<()>
+    ensures { Grows P.Performance W.Weight (from_e P.Performance W.Weight a b c d weight arm_e.now) row.old row.new result }
 {
     if weight.is_nothing() {
-        return Some(start);
+        return Some(());
     }
-    let mut filled = start;
     for e in arm_e {
         let t = Term {
             performance: P::in_bridge(a, b, c, d, e.performance),
             weight: weight.times(e.weight),
         };
-        match put(room, filled, t) {
-            Some(more) => filled = more,
-            None => return None,
-        }
+        row.put(t)?;
     }
-    Some(filled)
+    Some(())
 }

@@ -1,11 +1,11 @@
 // The row of all the combinations of two lists, in series or in parallel.
-ghost use Rattle.std.specs.Prelude.{◌≡◌, ◌≤◌, [], ◌∷◌, length, take};
-ghost use Rattle.terms.specs.Rows.{IsRow};
-ghost use Rattle.terms.specs.Merging.{Merges, MergesOnto, length_in};
+ghost use Rattle.std.specs.Prelude.{◌≡◌, [], ◌∷◌};
+ghost use Rattle.terms.specs.Merging.{Merges};
+ghost use Rattle.terms.specs.Growing.{Grows};
 ghost use Rattle.terms.specs.Combinations.{each, joins, combined, combinations};
 
-use crate::merge::put;
-use crate::term::{Filled, Term, Way};
+use crate::row::Row;
+use crate::term::{Term, Way};
 use kinds::performance::Performance;
 use kinds::weight::Weight;
 
@@ -18,10 +18,11 @@ pub fn combine<P: Performance, W: Weight>(
 ) -> Option<usize>
     ensures { Merges P.Performance W.Weight (combinations W.Weight (joins P.Performance way) xs.now ys.now) room.new result }
 {
-    match combine_into(way, xs, ys, room) {
-        Some(filled) => Some(filled.len),
-        None => None,
+    let mut row = Row::empty(room);
+    for x in xs {
+        spread(way, *x, ys, &mut row)?;
     }
+    Some(row.len)
 }
 
 // One term of each of two lists, together.
@@ -42,43 +43,17 @@ pub fn combine_terms<P: Performance, W: Weight>(
     }
 }
 
-// Every x with all of `ys`.
-fn combine_into<P: Performance, W: Weight>(
-    way: Way,
-    xs: &[Term<P, W>],
-    ys: &[Term<P, W>],
-    room: &mut [Term<P, W>],
-) -> Option<Filled>
-    ensures { Merges P.Performance W.Weight (combinations W.Weight (joins P.Performance way) xs.now ys.now) room.new (length_in result) }
-{
-    let mut filled = Filled { len: 0, last: 0 };
-    for x in xs {
-        match spread(way, *x, ys, room, filled) {
-            Some(more) => filled = more,
-            None => return None,
-        }
-    }
-    Some(filled)
-}
-
-// Merges the combinations of `x` with all of `ys` into the row that stands in `room`.
+// Merges the combinations of `x` with all of `ys` into the row.
 fn spread<P: Performance, W: Weight>(
     way: Way,
     x: Term<P, W>,
     ys: &[Term<P, W>],
-    room: &mut [Term<P, W>],
-    start: Filled,
-) -> Option<Filled>
-    requires fits { start.len ≤ length room.old }
-    requires row { IsRow P.Performance W.Weight (take start.len room.old) }
-    ensures { MergesOnto P.Performance W.Weight (each ys.now (λ y. combined W.Weight (joins P.Performance way) x y ∷ [])) start.len room.old room.new (length_in result) }
+    row: &mut Row<P, W>,
+) -> Option<()>
+    ensures { Grows P.Performance W.Weight (each ys.now (λ y. combined W.Weight (joins P.Performance way) x y ∷ [])) row.old row.new result }
 {
-    let mut filled = start;
     for y in ys {
-        match put(room, filled, combine_terms(way, x, *y)) {
-            Some(more) => filled = more,
-            None => return None,
-        }
+        row.put(combine_terms(way, x, *y))?;
     }
-    Some(filled)
+    Some(())
 }

@@ -5,6 +5,7 @@ pub mod bridge;
 pub mod combine;
 pub mod drawings;
 pub mod merge;
+pub mod row;
 pub mod sums;
 pub mod term;
 #[cfg(test)]

@@ -1,4 +1,4 @@
-use Rattle.std.proofs.Common.{◌++◌, take, None, sym, refl, subst}
+use Rattle.std.proofs.Common.{rules, ◌++◌, take, None, sym, refl, subst}
 use Rattle.terms.specs.Rows.{RowOf}
 use Rattle.terms.specs.Merging.{Merges}
 use Rattle.terms.specs.Picking.{from_d}
@@ -11,38 +11,39 @@ pub returns-then-is_nothing : goal.returns-then-is_nothing
 returns-then-is_nothing g c =
     let k = lawful_kind g.met.P.Performance in
     let w = lawful_weight g.met.W.Weight in
-    (c.requires.fits, void_adds k w _ _ (void_from_c k w c.args.a c.args.b c.args.weight c.args.arm_c.now c.args.arm_d.now c.args.arm_e.now (w.only_nothing c.args.weight (sym c.if-is_nothing.ensures))) c.requires.row)
+    record { same_room = refl; merged = λ h. (c.args.row.now.fits, void_adds k w _ _ (void_from_c k w c.args.a c.args.b c.args.weight c.args.arm_c.now c.args.arm_d.now c.args.arm_e.now (w.only_nothing c.args.weight (sym c.if-is_nothing.ensures))) h) }
 
 pub loop-c-init : goal.loop-c-init
-loop-c-init g c = (c.requires.fits, record { row = c.requires.row; same = λ p. refl })
-
-pub pick_d-requires : goal.pick_d-requires
-pick_d-requires g c = record { fits = c.loop-c.invariant.0; row = c.loop-c.invariant.1.row }
+loop-c-init g c = (refl, λ h. record { row = h; same = λ p. refl })
 
 pub loop-c-preserved : goal.loop-c-preserved
 loop-c-preserved g c =
     let k = g.P.Performance in
     let v = g.W.Weight in
-    let row = take c.loop-c.filled.len c.loop-c.room in
-    let after = take c.in-Some.more.len c.pick_d.new.room in (
-      c.in-Some.ensures.0,
-      each_more (lawful_kind g.met.P.Performance) (lawful_weight g.met.W.Weight) c.args.arm_c.now (λ t. from_d k v c.args.a c.args.b t.performance (v.product c.args.weight t.weight) c.args.arm_d.now c.args.arm_e.now) (take c.args.start.len c.args.room.now) row c.loop-c.c-index c.c-item.result c.loop-c-test.true c.c-item.is c.loop-c.invariant.1.same after
-          (subst (λ u. RowOf k v (from_d k v c.args.a c.args.b c.c-item.result.performance u c.args.arm_d.now c.args.arm_e.now ++ row) after) c.times.ensures c.in-Some.ensures.1),
+    let row = take c.loop-c.row.len c.loop-c.row.room.now in
+    let after = take c.pick_d.new.row.len c.pick_d.new.row.room.now in (
+      search rules,
+      λ h. each_more (lawful_kind g.met.P.Performance) (lawful_weight g.met.W.Weight) c.args.arm_c.now (λ t. from_d k v c.args.a c.args.b t.performance (v.product c.args.weight t.weight) c.args.arm_d.now c.args.arm_e.now) _ row c.loop-c.c-index c.c-item.result c.loop-c-test.true c.c-item.is (c.loop-c.invariant.1 h).same after
+          (subst (λ u. RowOf k v (from_d k v c.args.a c.args.b c.c-item.result.performance u c.args.arm_d.now c.args.arm_e.now ++ row) after) c.times.ensures (c.in_ok-pick_d.ensures.merged (c.loop-c.invariant.1 h).row).1),
     )
 
-pub returns-in-None : goal.returns-in-None
-returns-in-None g c =
+pub returns-in_err-pick_d : goal.returns-in_err-pick_d
+returns-in_err-pick_d g c =
     let k = g.P.Performance in
     let v = g.W.Weight in
-    let row = take c.loop-c.filled.len c.loop-c.room in
-    let after = c.pick_d.new.room in
-    each_refused (lawful_kind g.met.P.Performance) (lawful_weight g.met.W.Weight) c.args.arm_c.now (λ t. from_d k v c.args.a c.args.b t.performance (v.product c.args.weight t.weight) c.args.arm_d.now c.args.arm_e.now) (take c.args.start.len c.args.room.now) row c.loop-c.c-index c.c-item.result c.loop-c-test.true c.c-item.is c.loop-c.invariant.1.same after
-    (subst (λ u. Merges k v (from_d k v c.args.a c.args.b c.c-item.result.performance u c.args.arm_d.now c.args.arm_e.now ++ row) after None) c.times.ensures c.in-None.ensures)
+    let row = take c.loop-c.row.len c.loop-c.row.room.now in
+    let after = c.pick_d.new.row.room.now in
+    rw c.from_residual.ensures record {
+      same_room = search rules;
+      merged = λ h. each_refused (lawful_kind g.met.P.Performance) (lawful_weight g.met.W.Weight) c.args.arm_c.now (λ t. from_d k v c.args.a c.args.b t.performance (v.product c.args.weight t.weight) c.args.arm_d.now c.args.arm_e.now) _ row c.loop-c.c-index c.c-item.result c.loop-c-test.true c.c-item.is (c.loop-c.invariant.1 h).same after
+          (subst (λ u. Merges k v (from_d k v c.args.a c.args.b c.c-item.result.performance u c.args.arm_d.now c.args.arm_e.now ++ row) after None) c.times.ensures (c.in_err-pick_d.ensures.merged (c.loop-c.invariant.1 h).row));
+    }
 
 pub returns : goal.returns
 returns g c =
     let k = g.P.Performance in
-    let v = g.W.Weight in (
-      c.loop-c.invariant.0,
-      each_all (lawful_kind g.met.P.Performance) (lawful_weight g.met.W.Weight) c.args.arm_c.now (λ t. from_d k v c.args.a c.args.b t.performance (v.product c.args.weight t.weight) c.args.arm_d.now c.args.arm_e.now) (take c.args.start.len c.args.room.now) _ c.loop-c.c-index c.loop-c-test.false c.loop-c.invariant.1,
-    )
+    let v = g.W.Weight in
+    record {
+      same_room = c.loop-c.invariant.0;
+      merged = λ h. (c.loop-c.row.fits, each_all (lawful_kind g.met.P.Performance) (lawful_weight g.met.W.Weight) c.args.arm_c.now (λ t. from_d k v c.args.a c.args.b t.performance (v.product c.args.weight t.weight) c.args.arm_d.now c.args.arm_e.now) _ _ c.loop-c.c-index c.loop-c-test.false (c.loop-c.invariant.1 h));
+    }

@@ -1,4 +1,4 @@
-use Rattle.std.proofs.Common.{[], ◌∷◌, take, None, sym, refl, subst}
+use Rattle.std.proofs.Common.{rules, [], ◌∷◌, take, None, sym, refl, subst}
 use Rattle.terms.specs.Rows.{RowOf}
 use Rattle.terms.specs.Merging.{Merges}
 use Rattle.terms.specs.Combinations.{term}
@@ -11,40 +11,41 @@ pub returns-then-is_nothing : goal.returns-then-is_nothing
 returns-then-is_nothing g c =
     let k = lawful_kind g.met.P.Performance in
     let w = lawful_weight g.met.W.Weight in
-    (c.requires.fits, void_adds k w _ _ (void_from_e k w c.args.a c.args.b c.args.c c.args.d c.args.weight c.args.arm_e.now (w.only_nothing c.args.weight (sym c.if-is_nothing.ensures))) c.requires.row)
+    record { same_room = refl; merged = λ h. (c.args.row.now.fits, void_adds k w _ _ (void_from_e k w c.args.a c.args.b c.args.c c.args.d c.args.weight c.args.arm_e.now (w.only_nothing c.args.weight (sym c.if-is_nothing.ensures))) h) }
 
 pub loop-e-init : goal.loop-e-init
-loop-e-init g c = (c.requires.fits, record { row = c.requires.row; same = λ p. refl })
-
-pub put-requires : goal.put-requires
-put-requires g c = c.loop-e.invariant.0
+loop-e-init g c = (refl, λ h. record { row = h; same = λ p. refl })
 
 pub loop-e-preserved : goal.loop-e-preserved
 loop-e-preserved g c =
     let k = g.P.Performance in
     let v = g.W.Weight in
-    let row = take c.loop-e.filled.len c.loop-e.room in
-    let after = take c.in-Some.more.len c.put.new.room in (
-      (c.in-Some.ensures.merged c.loop-e.invariant.1.row).0,
-      each_more (lawful_kind g.met.P.Performance) (lawful_weight g.met.W.Weight) c.args.arm_e.now (λ t. term (k.bridge c.args.a c.args.b c.args.c c.args.d t.performance) (v.product c.args.weight t.weight) ∷ []) (take c.args.start.len c.args.room.now) row c.loop-e.e-index c.e-item.result c.loop-e-test.true c.e-item.is c.loop-e.invariant.1.same after
+    let row = take c.loop-e.row.len c.loop-e.row.room.now in
+    let after = take c.put.new.self.len c.put.new.self.room.now in (
+      search rules,
+      λ h. each_more (lawful_kind g.met.P.Performance) (lawful_weight g.met.W.Weight) c.args.arm_e.now (λ t. term (k.bridge c.args.a c.args.b c.args.c c.args.d t.performance) (v.product c.args.weight t.weight) ∷ []) _ row c.loop-e.e-index c.e-item.result c.loop-e-test.true c.e-item.is (c.loop-e.invariant.1 h).same after
           (subst (λ p. RowOf k v (term p (v.product c.args.weight c.e-item.result.weight) ∷ row) after) c.in_bridge.ensures
-          (subst (λ u. RowOf k v (term c.in_bridge.result u ∷ row) after) c.times.ensures (c.in-Some.ensures.merged c.loop-e.invariant.1.row).1)),
+          (subst (λ u. RowOf k v (term c.in_bridge.result u ∷ row) after) c.times.ensures (c.in_ok-put.ensures.merged (c.loop-e.invariant.1 h).row).1)),
     )
 
-pub returns-in-None : goal.returns-in-None
-returns-in-None g c =
+pub returns-in_err-put : goal.returns-in_err-put
+returns-in_err-put g c =
     let k = g.P.Performance in
     let v = g.W.Weight in
-    let row = take c.loop-e.filled.len c.loop-e.room in
-    let after = c.put.new.room in
-    each_refused (lawful_kind g.met.P.Performance) (lawful_weight g.met.W.Weight) c.args.arm_e.now (λ t. term (k.bridge c.args.a c.args.b c.args.c c.args.d t.performance) (v.product c.args.weight t.weight) ∷ []) (take c.args.start.len c.args.room.now) row c.loop-e.e-index c.e-item.result c.loop-e-test.true c.e-item.is c.loop-e.invariant.1.same after
-    (subst (λ p. Merges k v (term p (v.product c.args.weight c.e-item.result.weight) ∷ row) after None) c.in_bridge.ensures
-    (subst (λ u. Merges k v (term c.in_bridge.result u ∷ row) after None) c.times.ensures (c.in-None.ensures.merged c.loop-e.invariant.1.row)))
+    let row = take c.loop-e.row.len c.loop-e.row.room.now in
+    let after = c.put.new.self.room.now in
+    rw c.from_residual.ensures record {
+      same_room = search rules;
+      merged = λ h. each_refused (lawful_kind g.met.P.Performance) (lawful_weight g.met.W.Weight) c.args.arm_e.now (λ t. term (k.bridge c.args.a c.args.b c.args.c c.args.d t.performance) (v.product c.args.weight t.weight) ∷ []) _ row c.loop-e.e-index c.e-item.result c.loop-e-test.true c.e-item.is (c.loop-e.invariant.1 h).same after
+          (subst (λ p. Merges k v (term p (v.product c.args.weight c.e-item.result.weight) ∷ row) after None) c.in_bridge.ensures
+    (subst (λ u. Merges k v (term c.in_bridge.result u ∷ row) after None) c.times.ensures (c.in_err-put.ensures.merged (c.loop-e.invariant.1 h).row)));
+    }
 
 pub returns : goal.returns
 returns g c =
     let k = g.P.Performance in
-    let v = g.W.Weight in (
-      c.loop-e.invariant.0,
-      each_all (lawful_kind g.met.P.Performance) (lawful_weight g.met.W.Weight) c.args.arm_e.now (λ t. term (k.bridge c.args.a c.args.b c.args.c c.args.d t.performance) (v.product c.args.weight t.weight) ∷ []) (take c.args.start.len c.args.room.now) _ c.loop-e.e-index c.loop-e-test.false c.loop-e.invariant.1,
-    )
+    let v = g.W.Weight in
+    record {
+      same_room = c.loop-e.invariant.0;
+      merged = λ h. (c.loop-e.row.fits, each_all (lawful_kind g.met.P.Performance) (lawful_weight g.met.W.Weight) c.args.arm_e.now (λ t. term (k.bridge c.args.a c.args.b c.args.c c.args.d t.performance) (v.product c.args.weight t.weight) ∷ []) _ _ c.loop-e.e-index c.loop-e-test.false (c.loop-e.invariant.1 h));
+    }

@@ -1,0 +1,29 @@
+-- What merging terms into a lent row does to it.
+use Rattle.std.specs.Prelude.{◌≡◌, ℕ, List, ◌∷◌, ◌++◌, length, take, Some, None, Option}
+use Rattle.std.specs.List.Sorted.{IsPartitionPoint}
+use Rattle.std.specs.declared.cmp.Ordering.TheVariants.{Less, Greater}
+use Rattle.kinds.specs.declared.performance.Performance
+use Rattle.kinds.specs.declared.weight.Weight
+use Rattle.terms.specs.declared.term.Term.{Term}
+use Rattle.terms.specs.declared.row.Row.{Row}
+use Rattle.terms.specs.Rows.{IsRow}
+use Rattle.terms.specs.Merging.{Merges}
+
+-- the length, where something is answered
+abbrev pub length_if : Option (Unit {0}) → ℕ → Option ℕ
+length_if (Some _) n = Some n
+length_if None n = None
+
+module _ {P W : Type 0} (kind : Performance.Ghosts P) (weights : Weight.Ghosts W) where
+  -- more terms are merged onto the row, in the same room
+  pub record Grows (more : List (Term P W)) (before after : Row P W) (answer : Option (Unit {0})) : Type 0 where
+    pub same_room : after.room.ghost_name ≡ before.room.ghost_name
+    pub merged : IsRow kind weights (take before.len before.room.now) → Merges kind weights (more ++ take before.len before.room.now) after.room.now (length_if answer after.len)
+
+  -- the same of one term of no performance in the row, which belongs at the place i
+  pub record GrowsAt (t : Term P W) (i : ℕ) (before after : Row P W) (answer : Option (Unit {0})) : Type 0 where
+    pub same_room : after.room.ghost_name ≡ before.room.ghost_name
+    pub merged :
+        IsRow kind weights (take before.len before.room.now) →
+        IsPartitionPoint (λ x. kind.compared x.performance t.performance ≡ Less) (λ x. kind.compared x.performance t.performance ≡ Greater) (take before.len before.room.now) i →
+        Merges kind weights (t ∷ take before.len before.room.now) after.room.now (length_if answer after.len)
