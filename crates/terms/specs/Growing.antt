@@ -1,18 +1,24 @@
--- What merging terms into a lent row does to it.
-use Rattle.std.specs.Prelude.{◌≡◌, ℕ, List, ◌∷◌, ◌++◌, length, take, Some, None, Option}
+-- Cited by private functions only: what merging terms into a lent row does to it.
+use Rattle.std.specs.Prelude.{◌≡◌, ℕ, List, [], ◌∷◌, ◌++◌, take, Some, None, Option}
+use Rattle.std.specs.Borrow.{MutBor}
 use Rattle.std.specs.List.Sorted.{IsPartitionPoint}
 use Rattle.std.specs.declared.cmp.Ordering.TheVariants.{Less, Greater}
 use Rattle.kinds.specs.declared.performance.Performance
 use Rattle.kinds.specs.declared.weight.Weight
 use Rattle.terms.specs.declared.term.Term.{Term}
 use Rattle.terms.specs.declared.row.Row.{Row}
-use Rattle.terms.specs.Rows.{IsRow}
+use Rattle.terms.specs.Rows.{SameDistribution, IsRow}
 use Rattle.terms.specs.Merging.{Merges}
+use Rattle.terms.specs.Combinations.{term}
 
 -- the length, where something is answered
 abbrev pub length_if : Option (Unit {0}) → ℕ → Option ℕ
 length_if (Some _) n = Some n
 length_if None n = None
+
+-- t with its weight times w
+abbrev pub scaled : {P W : Type 0} → Weight.Ghosts W → W → Term P W → Term P W
+scaled weights w t = term t.performance (weights.product w t.weight)
 
 module _ {P W : Type 0} (kind : Performance.Ghosts P) (weights : Weight.Ghosts W) where
   -- more terms are merged onto the row, in the same room
@@ -27,3 +33,11 @@ module _ {P W : Type 0} (kind : Performance.Ghosts P) (weights : Weight.Ghosts W
         IsRow kind weights (take before.len before.room.now) →
         IsPartitionPoint (λ x. kind.compared x.performance t.performance ≡ Less) (λ x. kind.compared x.performance t.performance ≡ Greater) (take before.len before.room.now) i →
         Merges kind weights (t ∷ take before.len before.room.now) after.room.now (length_if answer after.len)
+
+  -- a call of the step for x merges `gives x` onto the row
+  abbrev pub StepGrows : (MutBor (Row P W) → Term P W → Option (Unit {0}) → MutBor (Row P W) → Type 0) → (Term P W → List (Term P W)) → Type 0
+  StepGrows post gives = (row after : MutBor (Row P W)) (x : Term P W) (answer : Option (Unit {0})) → post row x answer after → Grows (gives x) row.now after.now answer
+
+  -- what a term whose weight is nothing gives, has no weight either
+  abbrev pub GivesNothing : (Term P W → List (Term P W)) → Type 0
+  GivesNothing gives = (x : Term P W) → x.weight ≡ weights.nothing → SameDistribution kind weights (gives x) []

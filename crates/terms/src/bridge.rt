@@ -2,7 +2,7 @@
 ghost use Rattle.terms.specs.Merging.{Merges};
 ghost use Rattle.terms.specs.Growing.{Grows};
 ghost use Rattle.terms.specs.Combinations.{bridges};
-ghost use Rattle.terms.specs.Picking.{from_b, from_c, from_d, from_e};
+ghost use Rattle.terms.specs.Picking.{with_a, with_b, with_c, with_d};
 
 use crate::row::Row;
 use crate::term::Term;
@@ -20,126 +20,72 @@ pub fn bridge<P: Performance, W: Weight>(
 ) -> Option<usize>
     ensures { Merges P.Performance W.Weight (bridges P.Performance W.Weight arm_a.now arm_b.now arm_c.now arm_d.now arm_e.now) room.new result }
 {
-    let mut row = Row::empty(room);
-    for a in arm_a {
-        pick_b(
-            a.performance,
-            a.weight,
-            arm_b,
-            arm_c,
-            arm_d,
-            arm_e,
-            &mut row,
-        )?;
-    }
-    Some(row.len)
+    Row::of_each(arm_a, room, |row, a| with_a(a, arm_b, arm_c, arm_d, arm_e, row))
 }
 
-// Arm a picked: every b with all of c to e.
-fn pick_b<P: Performance, W: Weight>(
-    a: P,
-    weight: W,
+// Arm a picked: every b with all of c to e. The weight of the term picked last is the product of all those picked.
+fn with_a<P: Performance, W: Weight>(
+    a: Term<P, W>,
     arm_b: &[Term<P, W>],
     arm_c: &[Term<P, W>],
     arm_d: &[Term<P, W>],
     arm_e: &[Term<P, W>],
     row: &mut Row<P, W>,
 ) -> Option<()>
-    ensures { Grows P.Performance W.Weight (from_b P.Performance W.Weight a weight arm_b.now arm_c.now arm_d.now arm_e.now) row.old row.new result }
+    ensures { Grows P.Performance W.Weight (with_a P.Performance W.Weight a arm_b.now arm_c.now arm_d.now arm_e.now) row.old row.new result }
 {
-    for b in arm_b {
-        pick_c(
-            a,
-            b.performance,
-            weight.times(b.weight),
-            arm_c,
-            arm_d,
-            arm_e,
-            row,
-        )?;
-    }
-    Some(())
+    row.for_each_times(a.weight, arm_b, |row, b| {
+        with_b(a.performance, b, arm_c, arm_d, arm_e, row)
+    })
 }
 
-// Arms a and b picked, `weight` the product of theirs: every c with all of d and e.
-fn pick_c<P: Performance, W: Weight>(
+// Arms a and b picked: every c with all of d and e.
+fn with_b<P: Performance, W: Weight>(
     a: P,
-    b: P,
-    weight: W,
+    b: Term<P, W>,
     arm_c: &[Term<P, W>],
     arm_d: &[Term<P, W>],
     arm_e: &[Term<P, W>],
     row: &mut Row<P, W>,
 ) -> Option<()>
-    ensures { Grows P.Performance W.Weight (from_c P.Performance W.Weight a b weight arm_c.now arm_d.now arm_e.now) row.old row.new result }
+    ensures { Grows P.Performance W.Weight (with_b P.Performance W.Weight a b arm_c.now arm_d.now arm_e.now) row.old row.new result }
 {
-    if weight.is_nothing() {
-        return Some(());
-    }
-    for c in arm_c {
-        pick_d(
-            a,
-            b,
-            c.performance,
-            weight.times(c.weight),
-            arm_d,
-            arm_e,
-            row,
-        )?;
-    }
-    Some(())
+    row.for_each_times(b.weight, arm_c, |row, c| {
+        with_c(a, b.performance, c, arm_d, arm_e, row)
+    })
 }
 
 // Arms a to c picked: every d with all of e.
-fn pick_d<P: Performance, W: Weight>(
+fn with_c<P: Performance, W: Weight>(
     a: P,
     b: P,
-    c: P,
-    weight: W,
+    c: Term<P, W>,
     arm_d: &[Term<P, W>],
     arm_e: &[Term<P, W>],
     row: &mut Row<P, W>,
 ) -> Option<()>
-    ensures { Grows P.Performance W.Weight (from_d P.Performance W.Weight a b c weight arm_d.now arm_e.now) row.old row.new result }
+    ensures { Grows P.Performance W.Weight (with_c P.Performance W.Weight a b c arm_d.now arm_e.now) row.old row.new result }
 {
-    if weight.is_nothing() {
-        return Some(());
-    }
-    for d in arm_d {
-        pick_e(
-            a,
-            b,
-            c,
-            d.performance,
-            weight.times(d.weight),
-            arm_e,
-            row,
-        )?;
-    }
-    Some(())
+    row.for_each_times(c.weight, arm_d, |row, d| {
+        with_d(a, b, c.performance, d, arm_e, row)
+    })
 }
 
 // Arms a to d picked: every e.
-fn pick_e<P: Performance, W: Weight>(
+fn with_d<P: Performance, W: Weight>(
     a: P,
     b: P,
     c: P,
-    d: P,
-    weight: W,
+    d: Term<P, W>,
     arm_e: &[Term<P, W>],
     row: &mut Row<P, W>,
 ) -> Option<()>
-    ensures { Grows P.Performance W.Weight (from_e P.Performance W.Weight a b c d weight arm_e.now) row.old row.new result }
+    ensures { Grows P.Performance W.Weight (with_d P.Performance W.Weight a b c d arm_e.now) row.old row.new result }
 {
-    if weight.is_nothing() {
-        return Some(());
-    }
-    for e in arm_e {
-        let t = Term {
-            performance: P::in_bridge(a, b, c, d, e.performance),
-            weight: weight.times(e.weight),
-        };
-        row.put(t)?;
-    }
-    Some(())
+    row.for_each_times(d.weight, arm_e, |row, e| {
+        row.put(Term {
+            performance: P::in_bridge(a, b, c, d.performance, e.performance),
+            weight: e.weight,
+        })
+    })
 }

@@ -18,11 +18,7 @@ pub fn combine<P: Performance, W: Weight>(
 ) -> Option<usize>
     ensures { Merges P.Performance W.Weight (combinations W.Weight (joins P.Performance way) xs.now ys.now) room.new result }
 {
-    let mut row = Row::empty(room);
-    for x in xs {
-        spread(way, *x, ys, &mut row)?;
-    }
-    Some(row.len)
+    Row::of_each(xs, room, |row, x| with_all(way, x, ys, row))
 }
 
 // One term of each of two lists, together.
@@ -43,8 +39,8 @@ pub fn combine_terms<P: Performance, W: Weight>(
     }
 }
 
-// Merges the combinations of `x` with all of `ys` into the row.
-fn spread<P: Performance, W: Weight>(
+// One x with all of `ys`.
+fn with_all<P: Performance, W: Weight>(
     way: Way,
     x: Term<P, W>,
     ys: &[Term<P, W>],
@@ -52,8 +48,5 @@ fn spread<P: Performance, W: Weight>(
 ) -> Option<()>
     ensures { Grows P.Performance W.Weight (each ys.now (λ y. combined W.Weight (joins P.Performance way) x y ∷ [])) row.old row.new result }
 {
-    for y in ys {
-        row.put(combine_terms(way, x, *y))?;
-    }
-    Some(())
+    row.for_each(ys, |row, y| row.put(combine_terms(way, x, y)))
 }

@@ -13,11 +13,7 @@ pub fn merge<P: Performance, W: Weight>(
 ) -> Option<usize>
     ensures { Merges P.Performance W.Weight terms.now room.new result }
 {
-    let mut row = Row::empty(room);
-    for t in terms {
-        row.put(*t)?;
-    }
-    Some(row.len)
+    Row::of_each(terms, room, |row, t| row.put(t))
 }
 
 // Adds one term to the row in the first `filled.len` places of `room`. None where the row grows longer than the

@@ -18,7 +18,24 @@ pub(crate) struct Row<'a, P, W> {
 
 impl<'a, P: Performance, W: Weight> Row<'a, P, W> {
     ghost use Rattle.std.specs.Prelude.{◌∷◌, []};
-    ghost use Rattle.terms.specs.Growing.{Grows, GrowsAt};
+    ghost use Rattle.std.specs.Prelude.{List};
+    ghost use Rattle.terms.specs.Combinations.{each};
+    ghost use Rattle.terms.specs.Growing.{Grows, GrowsAt, StepGrows, GivesNothing, scaled};
+    ghost use Rattle.terms.specs.Merging.{Merges};
+
+    // The row of what a step for each of `xs` adds, in the first places of `room`; None where it is longer than the room.
+    pub(crate) fn of_each<F: Fn(&mut Row<P, W>, Term<P, W>) -> Option<()>>(
+        xs: &[Term<P, W>],
+        room: &'a mut [Term<P, W>],
+        step: F,
+    ) -> Option<usize>
+        requires { F.IsAlwaysCallable step }
+        ensures { (gives : Term P W → List (Term P W)) → StepGrows P.Performance W.Weight (F.post step) gives → Merges P.Performance W.Weight (each xs.now gives) room.new result }
+    {
+        let mut row = Row::empty(room);
+        row.for_each(xs, step)?;
+        Some(row.len)
+    }
 
     // A room with no term in it yet.
     pub(crate) fn empty(room: &'a mut [Term<P, W>]) -> Row<'a, P, W>
@@ -44,6 +61,43 @@ impl<'a, P: Performance, W: Weight> Row<'a, P, W> {
             len: filled.len,
             last: filled.last,
         }
+    }
+
+    // Takes a step for each of `xs`; None as soon as a step answers None.
+    pub(crate) fn for_each<F: Fn(&mut Row<P, W>, Term<P, W>) -> Option<()>>(
+        &mut self,
+        xs: &[Term<P, W>],
+        step: F,
+    ) -> Option<()>
+        requires { F.IsAlwaysCallable step }
+        ensures { (gives : Term P W → List (Term P W)) → StepGrows P.Performance W.Weight (F.post step) gives → Grows P.Performance W.Weight (each xs.now gives) self.old self.new result }
+    {
+        for x in xs {
+            step(self, *x)?;
+        }
+        Some(())
+    }
+
+    // The same, with each weight times `weight`. If that is nothing no step is taken: none would add anything.
+    pub(crate) fn for_each_times<F: Fn(&mut Row<P, W>, Term<P, W>) -> Option<()>>(
+        &mut self,
+        weight: W,
+        xs: &[Term<P, W>],
+        step: F,
+    ) -> Option<()>
+        requires { F.IsAlwaysCallable step }
+        ensures { (gives : Term P W → List (Term P W)) → StepGrows P.Performance W.Weight (F.post step) gives → GivesNothing P.Performance W.Weight gives → Grows P.Performance W.Weight (each xs.now (λ x. gives (scaled W.Weight weight x))) self.old self.new result }
+    {
+        if weight.is_nothing() {
+            return Some(());
+        }
+        self.for_each(
+            xs,
+            |row, x|
+                requires { F.IsAlwaysCallable step }
+                ensures { (gives : Term P W → List (Term P W)) → StepGrows P.Performance W.Weight (F.post step) gives → Grows P.Performance W.Weight (gives (scaled W.Weight weight x)) row.old row.new result }
+            { step(row, scaled(weight, x)) },
+        )
     }
 
     // Adds one term: to the one of its performance if the row has it, or else at the place where that would stand.
@@ -89,6 +143,16 @@ fn place<P: Performance, W: Weight>(row: &[Term<P, W>], last: usize, p: P) -> Re
         Some([here, ..]) if here.performance.order(p).is_eq() => Ok(last),
         Some([_, next, ..]) if next.performance.order(p).is_eq() => Ok(last + 1),
         _ => row.binary_search_by(|t| t.performance.order(p)),
+    }
+}
+
+// A term with its weight times another.
+fn scaled<P: Performance, W: Weight>(weight: W, t: Term<P, W>) -> Term<P, W>
+    ensures { result ≡ record { performance = t.performance; weight = W.product weight t.weight } }
+{
+    Term {
+        performance: t.performance,
+        weight: weight.times(t.weight),
     }
 }
 

@@ -1,4 +1,4 @@
-use Rattle.std.proofs.Common.{length-set, refl, rules}
+use Rattle.std.proofs.Common.{length-set, refl}
 use Rattle.kinds.proofs.Lawful.{lawful_kind, lawful_weight}
 use Rattle.terms.proofs.Placing.{add_here, row_rises}
 use Rattle.terms.proofs.row.Row.put.Goals as goal
