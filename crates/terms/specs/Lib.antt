@@ -12,3 +12,4 @@ pub mod Readings
 pub mod EnumerationLaws
 pub mod ReadingLaws
 pub mod Shown
+pub mod Summed

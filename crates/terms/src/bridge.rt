@@ -20,7 +20,11 @@ pub fn bridge<P: Performance, W: Weight>(
 ) -> Option<usize>
     ensures { Merges P.Performance W.Weight (bridges P.Performance W.Weight arm_a.now arm_b.now arm_c.now arm_d.now arm_e.now) room.new result }
 {
-    Row::of_each(arm_a, room, |row, a| with_a(a, arm_b, arm_c, arm_d, arm_e, row))
+    Row::of_each(
+        arm_a,
+        room,
+        |row, a| with_a(a, arm_b, arm_c, arm_d, arm_e, row),
+    )
 }
 
 // Arm a picked: every b with all of c to e. The weight of the term picked last is the product of all those picked.

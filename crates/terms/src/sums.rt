@@ -1,6 +1,8 @@
 // The weight of a row, and the weight in it that meets a demand.
 ghost use Rattle.std.specs.Prelude.{◌≡◌};
 ghost use Rattle.terms.specs.Sums.{total_of, met_of, counted_for};
+ghost use Rattle.terms.specs.Rows.{sum_over};
+ghost use Rattle.terms.specs.Summed.{Gives};
 
 use crate::term::Term;
 use kinds::performance::Performance;
@@ -10,27 +12,24 @@ use kinds::weight::Weight;
 pub fn availability<P: Performance, W: Weight>(row: &[Term<P, W>], demand: P) -> (W, W)
     ensures { result ≡ (met_of P.Performance W.Weight demand row.now, total_of W.Weight row.now) }
 {
-    (met(row, demand), total(row))
+    (sum_of(row, |t| counted(t, demand)), total(row))
 }
 
 // The sum of all the weights.
 pub fn total<P: Performance, W: Weight>(row: &[Term<P, W>]) -> W
     ensures { result ≡ total_of W.Weight row.now }
 {
-    let mut all = W::none();
-    for t in row {
-        all = all.plus(t.weight);
-    }
-    all
+    sum_of(row, |t| t.weight)
 }
 
-// The sum of the weights of the terms that meet the demand.
-fn met<P: Performance, W: Weight>(row: &[Term<P, W>], demand: P) -> W
-    ensures { result ≡ met_of P.Performance W.Weight demand row.now }
+// The sum of what each term of the row gives.
+fn sum_of<P: Performance, W: Weight, F: Fn(Term<P, W>) -> W>(row: &[Term<P, W>], gives: F) -> W
+    requires { F.IsAlwaysCallable gives }
+    ensures { (given : Term P W → W) → Gives (F.post gives) given → result ≡ sum_over W.Weight given row.now }
 {
     let mut all = W::none();
     for t in row {
-        all = all.plus(counted(*t, demand));
+        all = all.plus(gives(*t));
     }
     all
 }

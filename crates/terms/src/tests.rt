@@ -47,30 +47,11 @@ fn weights_stop_at_the_top(rt: HostRuntime) {
 }
 
 fn units() -> [State; 8] {
-    [
-        state(0, 1),
-        state(1, 1),
-        state(2, 1),
-        state(3, 1),
-        state(4, 1),
-        state(5, 1),
-        state(6, 1),
-        state(7, 1),
-    ]
+    [0, 1, 2, 3, 4, 5, 6, 7].map(|rate| state(rate, 1))
 }
 
 fn eights() -> [State; 9] {
-    [
-        state(0, 1),
-        state(8, 1),
-        state(16, 1),
-        state(24, 1),
-        state(32, 1),
-        state(40, 1),
-        state(48, 1),
-        state(56, 1),
-        state(64, 1),
-    ]
+    [0, 8, 16, 24, 32, 40, 48, 56, 64].map(|rate| state(rate, 1))
 }
 
 // Flows 0 to 7 parallel with 0, 8, .. 56 have 64 levels, which a room of 64 holds.
