@@ -1,8 +1,6 @@
 // The row of all the combinations of the five arms of a bridge.
 ghost use Rattle.terms.specs.Merging.{Merges};
-ghost use Rattle.terms.specs.Growing.{Grows};
 ghost use Rattle.terms.specs.Combinations.{bridges};
-ghost use Rattle.terms.specs.Picking.{with_a, with_b, with_c, with_d};
 
 use crate::row::Row;
 use crate::term::Term;
@@ -20,76 +18,70 @@ pub fn bridge<P: Performance, W: Weight>(
 ) -> Option<usize>
     ensures { Merges P.Performance W.Weight (bridges P.Performance W.Weight arm_a.now arm_b.now arm_c.now arm_d.now arm_e.now) room.new result }
 {
-    Row::of_each(
-        arm_a,
-        room,
-        |row, a| with_a(a, arm_b, arm_c, arm_d, arm_e, row),
-    )
+    let arms = Arms {
+        b: arm_b,
+        c: arm_c,
+        d: arm_d,
+        e: arm_e,
+    };
+    Row::of_each(arm_a, room, |row, a| arms.with_a(a, row))
 }
 
-// Arm a picked: every b with all of c to e. The weight of the term picked last is the product of all those picked.
-fn with_a<P: Performance, W: Weight>(
-    a: Term<P, W>,
-    arm_b: &[Term<P, W>],
-    arm_c: &[Term<P, W>],
-    arm_d: &[Term<P, W>],
-    arm_e: &[Term<P, W>],
-    row: &mut Row<P, W>,
-) -> Option<()>
-    ensures { Grows P.Performance W.Weight (with_a P.Performance W.Weight a arm_b.now arm_c.now arm_d.now arm_e.now) row.old row.new result }
-{
-    row.for_each_times(a.weight, arm_b, |row, b| {
-        with_b(a.performance, b, arm_c, arm_d, arm_e, row)
-    })
+// The arms that are picked from after arm a. The weight of the term picked last is the product of all those picked.
+#[derive(Clone, Copy)]
+struct Arms<'a, P, W> {
+    b: &'a [Term<P, W>],
+    c: &'a [Term<P, W>],
+    d: &'a [Term<P, W>],
+    e: &'a [Term<P, W>],
 }
 
-// Arms a and b picked: every c with all of d and e.
-fn with_b<P: Performance, W: Weight>(
-    a: P,
-    b: Term<P, W>,
-    arm_c: &[Term<P, W>],
-    arm_d: &[Term<P, W>],
-    arm_e: &[Term<P, W>],
-    row: &mut Row<P, W>,
-) -> Option<()>
-    ensures { Grows P.Performance W.Weight (with_b P.Performance W.Weight a b arm_c.now arm_d.now arm_e.now) row.old row.new result }
-{
-    row.for_each_times(b.weight, arm_c, |row, c| {
-        with_c(a, b.performance, c, arm_d, arm_e, row)
-    })
-}
+impl<P: Performance, W: Weight> Arms<'_, P, W> {
+    ghost use Rattle.terms.specs.Growing.{Grows};
+    ghost use Rattle.terms.specs.Picking.{with_a, with_b, with_c, with_d};
 
-// Arms a to c picked: every d with all of e.
-fn with_c<P: Performance, W: Weight>(
-    a: P,
-    b: P,
-    c: Term<P, W>,
-    arm_d: &[Term<P, W>],
-    arm_e: &[Term<P, W>],
-    row: &mut Row<P, W>,
-) -> Option<()>
-    ensures { Grows P.Performance W.Weight (with_c P.Performance W.Weight a b c arm_d.now arm_e.now) row.old row.new result }
-{
-    row.for_each_times(c.weight, arm_d, |row, d| {
-        with_d(a, b, c.performance, d, arm_e, row)
-    })
-}
+    // Arm a picked: every b with all of c to e.
+    fn with_a(&self, a: Term<P, W>, row: &mut Row<P, W>) -> Option<()>
+        ensures { Grows P.Performance W.Weight (with_a P.Performance W.Weight a self.now.b.now self.now.c.now self.now.d.now self.now.e.now) row.old row.new result }
+    {
+        row.for_each_times(
+            a.weight,
+            self.b,
+            |row, b| self.with_b(a.performance, b, row),
+        )
+    }
 
-// Arms a to d picked: every e.
-fn with_d<P: Performance, W: Weight>(
-    a: P,
-    b: P,
-    c: P,
-    d: Term<P, W>,
-    arm_e: &[Term<P, W>],
-    row: &mut Row<P, W>,
-) -> Option<()>
-    ensures { Grows P.Performance W.Weight (with_d P.Performance W.Weight a b c d arm_e.now) row.old row.new result }
-{
-    row.for_each_times(d.weight, arm_e, |row, e| {
-        row.put(Term {
-            performance: P::in_bridge(a, b, c, d.performance, e.performance),
-            weight: e.weight,
+    // Arms a and b picked: every c with all of d and e.
+    fn with_b(&self, a: P, b: Term<P, W>, row: &mut Row<P, W>) -> Option<()>
+        ensures { Grows P.Performance W.Weight (with_b P.Performance W.Weight a b self.now.c.now self.now.d.now self.now.e.now) row.old row.new result }
+    {
+        row.for_each_times(
+            b.weight,
+            self.c,
+            |row, c| self.with_c(a, b.performance, c, row),
+        )
+    }
+
+    // Arms a to c picked: every d with all of e.
+    fn with_c(&self, a: P, b: P, c: Term<P, W>, row: &mut Row<P, W>) -> Option<()>
+        ensures { Grows P.Performance W.Weight (with_c P.Performance W.Weight a b c self.now.d.now self.now.e.now) row.old row.new result }
+    {
+        row.for_each_times(
+            c.weight,
+            self.d,
+            |row, d| self.with_d(a, b, c.performance, d, row),
+        )
+    }
+
+    // Arms a to d picked: every e.
+    fn with_d(&self, a: P, b: P, c: P, d: Term<P, W>, row: &mut Row<P, W>) -> Option<()>
+        ensures { Grows P.Performance W.Weight (with_d P.Performance W.Weight a b c d self.now.e.now) row.old row.new result }
+    {
+        row.for_each_times(d.weight, self.e, |row, e| {
+            row.put(Term {
+                performance: P::in_bridge(a, b, c, d.performance, e.performance),
+                weight: e.weight,
+            })
         })
-    })
+    }
 }

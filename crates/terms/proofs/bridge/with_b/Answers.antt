@@ -1,8 +1,0 @@
-use Rattle.std.proofs.Common.{rules}
-use Rattle.terms.specs.Picking.{with_c}
-use Rattle.kinds.proofs.Lawful.{lawful_kind, lawful_weight}
-use Rattle.terms.proofs.Voiding.{void_c}
-use Rattle.terms.proofs.bridge.with_b.Goals as goal
-
-pub returns : goal.returns
-returns g c = c.for_each_times.ensures (λ t. with_c g.P.Performance g.W.Weight c.args.a c.args.b.performance t c.args.arm_d.now c.args.arm_e.now) (search rules) (void_c (lawful_kind g.met.P.Performance) (lawful_weight g.met.W.Weight) c.args.a c.args.b.performance c.args.arm_d.now c.args.arm_e.now)
