@@ -1,6 +1,7 @@
 -- First fault: the one met first; 0 is healthy. Order counts, in series and in parallel.
 use Rattle.std.specs.Prelude.{Bool, cond, ◌||◌, ◌==◌}
 use Rattle.kinds.specs.Named.{FirstFault}
+use Rattle.kinds.specs.Paths.{by_paths}
 
 -- the first unless it is healthy, then the second
 abbrev pub first_series : FirstFault → FirstFault → FirstFault
@@ -12,9 +13,7 @@ first_parallel a b = cond (a.bits == 0) a (cond (b.bits == 0) b a)
 
 -- the paths a-d, b-e, a-c-e and b-c-d by series, joined by parallel in this order
 abbrev pub first_bridge : FirstFault → FirstFault → FirstFault → FirstFault → FirstFault → FirstFault
-first_bridge a b c d e =
-    first_parallel (first_parallel (first_parallel (first_series a d) (first_series b e)) (first_series (first_series a c) e))
-    (first_series (first_series b c) d)
+first_bridge = by_paths first_series first_parallel
 
 -- v is healthy, or the fault w
 abbrev pub first_meets : FirstFault → FirstFault → Bool

@@ -12,6 +12,7 @@ pub mod Members
 pub mod Declares
 pub mod Words
 pub mod Named
+pub mod Paths
 pub mod WordLaws
 pub mod Caps
 pub mod Bitwise

@@ -78,6 +78,7 @@ impl Performance for FirstFault {
         d: FirstFault,
         e: FirstFault,
     ) -> FirstFault {
+        // In full, as in two more kinds: a method may not call what is generic over its own trait and type.
         let upper = a.in_series(d);
         let lower = b.in_series(e);
         let down = a.in_series(c).in_series(e);

@@ -2,6 +2,7 @@
 use Rattle.std.specs.Prelude.{Bool, true, false}
 use Rattle.std.specs.declared.cmp.Ordering.TheVariants.{Less, Equal, Greater}
 use Rattle.std.specs.declared.cmp.Ordering.{Ordering}
+use Rattle.kinds.specs.Paths.{by_paths}
 use Rattle.worked.specs.declared.service.Service.{Service}
 use Rattle.worked.specs.declared.service.Service.TheVariants.{Down, Up}
 
@@ -21,7 +22,7 @@ either Up b = Up
 
 -- some path of a-d, b-e, a-c-e and b-c-d runs
 abbrev pub binary_bridge : Service → Service → Service → Service → Service → Service
-binary_bridge a b c d e = either (either (both a d) (both b e)) (either (both (both a c) e) (both (both b c) d))
+binary_bridge = by_paths both either
 
 -- what is up meets every demand, what is down only the demand down
 abbrev pub binary_meets : Service → Service → Bool
