@@ -1,6 +1,7 @@
 // A row that stands in lent memory, and what merges a term into it.
 ghost use Rattle.std.specs.Prelude.{◌≡◌, ◌≤◌, length};
 ghost use Rattle.std.specs.List.Sorted.{IsBinarySearchResult, IsSearchInRange};
+ghost use Rattle.terms.specs.Combinations.{term};
 
 use crate::term::{Filled, Term};
 use kinds::performance::Performance;
@@ -17,8 +18,7 @@ pub(crate) struct Row<'a, P, W> {
 }
 
 impl<'a, P: Performance, W: Weight> Row<'a, P, W> {
-    ghost use Rattle.std.specs.Prelude.{◌∷◌, []};
-    ghost use Rattle.std.specs.Prelude.{List};
+    ghost use Rattle.std.specs.Prelude.{List, [], ◌∷◌};
     ghost use Rattle.terms.specs.Combinations.{each};
     ghost use Rattle.terms.specs.Growing.{Grows, GrowsAt, StepGrows, GivesNothing, scaled};
     ghost use Rattle.terms.specs.Merging.{Merges};
@@ -148,7 +148,7 @@ fn place<P: Performance, W: Weight>(row: &[Term<P, W>], last: usize, p: P) -> Re
 
 // A term with its weight times another.
 fn scaled<P: Performance, W: Weight>(weight: W, t: Term<P, W>) -> Term<P, W>
-    ensures { result ≡ record { performance = t.performance; weight = W.product weight t.weight } }
+    ensures { result ≡ term t.performance (W.product weight t.weight) }
 {
     Term {
         performance: t.performance,
@@ -158,7 +158,7 @@ fn scaled<P: Performance, W: Weight>(weight: W, t: Term<P, W>) -> Term<P, W>
 
 // A term with more weight.
 fn grown<P: Performance, W: Weight>(t: Term<P, W>, more: W) -> Term<P, W>
-    ensures { result ≡ record { performance = t.performance; weight = W.sum t.weight more } }
+    ensures { result ≡ term t.performance (W.sum t.weight more) }
 {
     Term {
         performance: t.performance,
