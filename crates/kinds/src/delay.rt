@@ -45,6 +45,7 @@ impl Performance for Delay {
     ghost parallel_commutative = { λ e. smaller_comm };
 
     fn order(self, other: Delay) -> Ordering {
+        // The derived order; `Performance::order` says why it is no supertrait's.
         self.cmp(&other)
     }
 

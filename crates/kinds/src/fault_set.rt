@@ -44,6 +44,7 @@ impl Performance for FaultSet {
     ghost parallel_commutative = { λ e. intersection_comm };
 
     fn order(self, other: FaultSet) -> Ordering {
+        // The derived order; `Performance::order` says why it is no supertrait's.
         self.cmp(&other)
     }
 

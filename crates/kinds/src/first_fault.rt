@@ -56,6 +56,7 @@ impl Performance for FirstFault {
     ghost parallel_commutative = { Prim.search rules };
 
     fn order(self, other: FirstFault) -> Ordering {
+        // The derived order; `Performance::order` says why it is no supertrait's.
         self.cmp(&other)
     }
 

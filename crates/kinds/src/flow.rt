@@ -44,6 +44,7 @@ impl Performance for Flow {
     ghost parallel_commutative = { λ e. sum_comm };
 
     fn order(self, other: Flow) -> Ordering {
+        // The derived order; `Performance::order` says why it is no supertrait's.
         self.cmp(&other)
     }
 
@@ -56,6 +57,7 @@ impl Performance for Flow {
     }
 
     fn in_bridge(a: Flow, b: Flow, c: Flow, d: Flow, e: Flow) -> Flow {
+        // By the cuts; the other kinds go by the paths.
         let source = a.capped_sum(b);
         let sink = d.capped_sum(e);
         let down = a.capped_sum(c).capped_sum(e);

@@ -28,6 +28,7 @@ pub trait Performance: Copy {
     // a value held against a demand
     ghost meets: { Self → Self → Bool };
 
+    // Not `Ord` as a supertrait: its ghosts are a record apart, which each definition and clause on a kind would take besides.
     fn order(self, other: Self) -> Ordering
         ensures { result ≡ compared self other };
 

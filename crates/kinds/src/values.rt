@@ -44,7 +44,8 @@ pub struct Pair<A, B> {
     pub second: B,
 }
 
-// A performance, or no service at all.
+// A performance, or no service at all. Not `Option`: out is a value of a kind, and a rule of the project gives it a type of
+// its own.
 #[derive(Clone, Copy, PartialEq, Eq, Debug)]
 pub enum OrOut<K> {
     Out,

@@ -40,7 +40,7 @@ impl<Of> Word<Of> {
     ghost use Rattle.kinds.specs.Holding.{Holds};
     ghost use Rattle.kinds.specs.Words.{number, smaller, word_sum, word_product, union, intersection};
 
-    // The one place where a value is made.
+    // The one place where a value is made. Not `From<u32>`: `Flow::new(3)` says of what the number is.
     pub fn new(bits: u32) -> Word<Of>
         ensures { Holds number bits result }
     {

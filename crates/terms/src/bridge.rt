@@ -7,7 +7,7 @@ use crate::term::Term;
 use kinds::performance::Performance;
 use kinds::weight::Weight;
 
-// The row of the combinations of the arms a to e, in the first places of `room`; None where the row is longer than the room.
+// The row of the combinations of the arms a to e (five slices, so that the contract names each), in the first places of `room`; None where the row is longer than the room.
 pub fn bridge<P: Performance, W: Weight>(
     arm_a: &[Term<P, W>],
     arm_b: &[Term<P, W>],
@@ -27,7 +27,8 @@ pub fn bridge<P: Performance, W: Weight>(
     Row::of_each(arm_a, room, |row, a| arms.with_a(a, row))
 }
 
-// The arms that are picked from after arm a. The weight of the term picked last is the product of all those picked.
+// The arms that are picked from after arm a. The weight of the term picked last is the product of all those picked. A function for
+// each level: as closures within closures they prove too, but stand five deep and need the same clauses.
 #[derive(Clone, Copy)]
 struct Arms<'a, P, W> {
     b: &'a [Term<P, W>],

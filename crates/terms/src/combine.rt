@@ -29,6 +29,7 @@ pub fn combine_terms<P: Performance, W: Weight>(
 ) -> Term<P, W>
     ensures { result ≡ combined W.Weight (joins P.Performance way) x y }
 {
+    // A way is a value that drawings hold, so the choice of the operation is made here.
     let performance = match way {
         Way::Series => x.performance.in_series(y.performance),
         Way::Parallel => x.performance.in_parallel(y.performance),
@@ -39,7 +40,7 @@ pub fn combine_terms<P: Performance, W: Weight>(
     }
 }
 
-// One x with all of `ys`.
+// One x with all of `ys`; a function, since as a closure it needs the same clause.
 fn with_all<P: Performance, W: Weight>(
     way: Way,
     x: Term<P, W>,

@@ -27,7 +27,8 @@ pub enum Way {
 }
 
 // How much of a room is filled: the row in it has `len` terms. `last` is the place of the term that was
-// merged last, where the search for the next one begins; it is a hint, and any number does.
+// merged last, where the search for the next one begins; it is a hint, and any number does. It lies beside the room because the
+// room is the caller's: memory is lent from call to call.
 #[derive(Clone, Copy, PartialEq, Eq, Debug)]
 pub struct Filled {
     pub len: usize,

@@ -43,6 +43,7 @@ impl Performance for Service {
     ghost parallel_commutative = { Prim.search rules };
 
     fn order(self, other: Service) -> Ordering {
+        // The derived order; `Performance::order` says why it is no supertrait's.
         self.cmp(&other)
     }
 

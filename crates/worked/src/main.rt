@@ -21,7 +21,7 @@ pub mod examples;
 mod lines;
 mod service;
 
-// The terms that a row may have.
+// The terms that a row may have. The libraries allocate nothing: a row is worked out in an array that is lent to them.
 const ROOM: usize = 64;
 
 // The states of two pumps and a pipe.
