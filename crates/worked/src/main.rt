@@ -1,11 +1,10 @@
 // A small plant from start to end: two pumps in parallel, then a pipe in series.
 #![tactic(auto)]
 
-ghost use Rattle.std.specs.Prelude.{◌≡◌, IfOk, MatchResult, take};
+ghost use Rattle.std.specs.Prelude.{◌≡◌, MatchResult};
 ghost use Rattle.kinds.specs.Holding.{Holds};
 ghost use Rattle.kinds.specs.Words.{number};
-ghost use Rattle.terms.specs.declared.term.Way.TheVariants.{Series, Parallel};
-ghost use Rattle.worked.specs.Plants.{JoinedIn, TooLong};
+ghost use Rattle.worked.specs.Plants.{JoinedIn, TooLong, BothRows, NoRoom};
 
 use anyhow::Context;
 use kinds::performance::Performance;
@@ -72,9 +71,9 @@ impl<P: Performance> Plant<P> {
         pumps: &mut [Term<P, Parts>],
         plant: &mut [Term<P, Parts>],
     ) -> anyhow::Result<(usize, usize)>
-        ensures { IfOk result (λ lens.
-            JoinedIn P.Performance Parallel self.now.pump_a self.now.pump_b pumps.new lens.0
-            × JoinedIn P.Performance Series (take lens.0 pumps.new) self.now.pipe plant.new lens.1) }
+        ensures { MatchResult result
+            (BothRows P.Performance self.now.pump_a self.now.pump_b self.now.pipe pumps.new plant.new)
+            (λ _. NoRoom P.Performance self.now.pump_a self.now.pump_b self.now.pipe pumps.new plant.new) }
     {
         let n = joined(
             Way::Parallel,
