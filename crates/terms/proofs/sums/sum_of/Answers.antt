@@ -1,6 +1,4 @@
 use Rattle.std.proofs.Common.{sym, ap, ◌∙◌}
-use Rattle.std.proofs.lemmas.List.{take_all}
-use Rattle.terms.specs.Rows.{sum_over}
 use Rattle.kinds.proofs.Lawful.{lawful_weight}
 use Rattle.terms.proofs.Looping.{sum_more}
 use Rattle.terms.proofs.sums.sum_of.Goals as goal
@@ -11,5 +9,3 @@ loop-t-preserved g c = λ given gives.
     c.plus-all.ensures ∙ ap (λ z. v.sum z c.gives.result) (c.loop-t.invariant given gives) ∙ ap (v.sum _) (gives _ _ c.gives.ensures)
     ∙ sym (sum_more (lawful_weight g.met.W.Weight) given c.args.row.now c.loop-t.t-index c.t-item.result c.loop-t-test.true c.t-item.is)
 
-pub returns : goal.returns
-returns g c = λ given gives. c.loop-t.invariant given gives ∙ ap (sum_over g.W.Weight given) (take_all c.loop-t.t-index c.args.row.now c.loop-t-test.false)

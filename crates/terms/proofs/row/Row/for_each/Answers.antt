@@ -1,13 +1,7 @@
-use Rattle.std.proofs.Common.{take, refl, ◌∙◌}
+use Rattle.std.proofs.Common.{take, ◌∙◌}
 use Rattle.kinds.proofs.Lawful.{lawful_kind, lawful_weight}
 use Rattle.terms.proofs.Looping.{each_more, each_refused, each_all}
 use Rattle.terms.proofs.row.Row.for_each.Goals as goal
-
-pub loop-x-init : goal.loop-x-init
-loop-x-init g c = λ gives grows. record {
-  same_room = refl;
-  merged = λ row. (c.args.self.now.fits, record { row = row; same = λ p. refl });
-}
 
 pub loop-x-preserved : goal.loop-x-preserved
 loop-x-preserved g c = λ gives grows.

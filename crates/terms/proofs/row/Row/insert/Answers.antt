@@ -3,14 +3,8 @@ use Rattle.std.specs.List.{insert}
 use Rattle.std.proofs.lemmas.List.{length-take-le}
 use Rattle.std.proofs.lemmas.List.Edits.{length-insert}
 use Rattle.kinds.proofs.Lawful.{lawful_kind, lawful_weight}
-use Rattle.terms.proofs.Placing.{put_between, nothing_row, something_row}
+use Rattle.terms.proofs.Placing.{put_between, something_row}
 use Rattle.terms.proofs.row.Row.insert.Goals as goal
-
-pub returns-then-weighs_nothing : goal.returns-then-weighs_nothing
-returns-then-weighs_nothing g c = record {
-  same_room = refl;
-  merged = λ h at. (c.args.self.now.fits, nothing_row (lawful_kind g.met.P.Performance) (lawful_weight g.met.W.Weight) _ _ (sym c.if-weighs_nothing.ensures) h);
-}
 
 pub returns-then-self : goal.returns-then-self
 returns-then-self g c =
