@@ -1,7 +1,7 @@
 -- Words are equal where their numbers are, and so the laws of numbers hold of words.
-use Rattle.std.specs.Prelude.{◌≡◌, ℕ, suc, ◌+◌, ◌^◌, ◌<◌, true, refl}
+use Rattle.std.specs.Prelude.{◌≡◌, ℕ, suc, ◌^◌, ◌<◌, min, true, refl}
 use Rattle.std.specs.declared.cmp.Ordering.TheVariants.{Less, Equal}
-use Rattle.std.specs.Ordering.{ordering_reverse}
+use Rattle.std.specs.Ordering.{nat_cmp, ordering_reverse}
 use Rattle.std.specs.Int.Bits.{or_zero_l, and_zero_l}
 use Rattle.std.proofs.Math.Path.{PathP}
 use Rattle.std.proofs.Math.Bridge.{le_prop}
@@ -17,19 +17,29 @@ use Rattle.kinds.specs.Capped.{top32}
 use Rattle.kinds.specs.Caps as caps
 use Rattle.kinds.specs.Fits.{fits_below}
 use Rattle.kinds.specs.Holding.{Holds, Numbers32}
-use Rattle.kinds.specs.Words.{number, word, zero_word, top_word, holds_number, word_compared, smaller, capped_word, word_sum, word_product, union, intersection}
+use Rattle.kinds.specs.Words.{number, word, zero_word, top_word, holds_number, word_compared, smaller, word_sum, word_product, union, intersection}
 use Rattle.kinds.specs.declared.word.Word.{Word}
 
 -- two proofs of one bound, along an equation
 bound_path : {m n : ℕ} (p : m ≡ n) (top : ℕ) (h : m < top) (k : n < top) → PathP (λ i. p i < top) h k
 bound_path p top h k = is_prop→PathP (λ i. p i < top) (λ i. le_prop {n = suc (p i)} {m = top}) h k
 
+-- a value holds its number, if the number tells the value
+pub holds : {V : Type 0} (shown : V → ℕ) → ((v w : V) → shown v ≡ shown w → v ≡ w) → (n : ℕ) (v : V) → shown v ≡ n → Holds shown n v
+holds shown same n v e = record { shows = e; only = λ w f. same v w (e ∙ sym f) }
+
+pub nat_equal : (m n : ℕ) → nat_cmp m n ≡ Equal → m ≡ n
+nat_equal m n h = grind (arith, nat_tests)
+
+pub min_assoc : (a b c : ℕ) → min (min a b) c ≡ min a (min b c)
+min_assoc a b c = omega arith
+
 module _ {Of : Type 0} where
   pub word_same : (a b : Word Of) → a.bits ≡ b.bits → a ≡ b
   word_same a b p = λ i. record { bits = p i; of = record {}; fits = bound_path p (2 ^ 32) a.fits b.fits i }
 
   pub word_holds : (n : ℕ) (v : Word Of) → number v ≡ n → Holds number n v
-  word_holds n v e = record { shows = e; only = λ w f. word_same v w (e ∙ sym f) }
+  word_holds n v e = holds number word_same n v e
 
   pub word_numbers : Numbers32 (number {Of = Of})
   word_numbers = record {
@@ -38,7 +48,7 @@ module _ {Of : Type 0} where
   }
 
   pub compared_same : (a b : Word Of) → word_compared a b ≡ Equal → a ≡ b
-  compared_same a b h = word_same a b (grind (arith, nat_tests))
+  compared_same a b h = word_same a b (nat_equal a.bits b.bits h)
 
   pub compared_itself : (a : Word Of) → word_compared a a ≡ Equal
   compared_itself a = tied_itself nat_cmp_total a.bits
@@ -56,7 +66,7 @@ module _ {Of : Type 0} where
   only_top a h = word_same _ _ (eqb-true a.bits top32 h)
 
   pub smaller_assoc : (a b c : Word Of) → smaller (smaller a b) c ≡ smaller a (smaller b c)
-  smaller_assoc a b c = word_same _ _ (omega arith)
+  smaller_assoc a b c = word_same _ _ (min_assoc a.bits b.bits c.bits)
 
   pub smaller_comm : (a b : Word Of) → smaller a b ≡ smaller b a
   smaller_comm a b = word_same _ _ (min_comm a.bits b.bits)
@@ -74,9 +84,6 @@ module _ {Of : Type 0} where
 
   pub sum_comm : (a b : Word Of) → word_sum a b ≡ word_sum b a
   sum_comm a b = word_same _ _ (caps.sum_comm top32 a.bits b.bits)
-
-  pub sum_three : (a b c : Word Of) → word_sum (word_sum a b) c ≡ capped_word (a.bits + b.bits + c.bits)
-  sum_three a b c = word_same _ _ (caps.sum_three top32 a.bits b.bits c.bits)
 
   pub sum_zero : (a : Word Of) → word_sum zero_word a ≡ a
   sum_zero a = word_same _ _ (caps.sum_zero top32 a.bits (fits_below a.bits a.fits))

@@ -11,6 +11,7 @@ pub fn cap(n: u64) -> u32
     if n < TOP32 as u64 { n as u32 } else { TOP32 }
 }
 
+// For kinds of your own, as `cap` is.
 pub fn least_of_four(a: u32, b: u32, c: u32, d: u32) -> u32
     ensures { result ≡ least_of_four a b c d }
 {

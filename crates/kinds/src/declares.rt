@@ -1,5 +1,8 @@
 // Whether the order of the operands counts, in series and in parallel.
 ghost use Rattle.std.specs.Prelude.{◌≡◌};
+ghost use mir.Syntax.{Dict};
+ghost use Rattle.kinds.specs.contracts.or_out.OrOutPerformance.TheImpl.{ghosts as or_out_kind};
+ghost use Rattle.kinds.specs.contracts.pair.PairPerformance.TheImpl.{ghosts as pair_kind};
 ghost use Rattle.kinds.specs.Declares.{NamedDeclare, DeclaresEither, DeclaresAs};
 
 use crate::performance::Performance;
@@ -20,5 +23,8 @@ pub fn named_kinds_declare()
 // What pairs and kinds with out declare.
 pub fn composed_kinds_declare<A: Performance, B: Performance>()
     ensures pair { DeclaresEither ⟦<Pair<A, B> as Performance>⟧ A.Performance B.Performance }
+    ensures pair_any { (d e d' e' : Dict) →
+        DeclaresEither (pair_kind A.row B.row A.Performance d ⟦<A as Clone>⟧ e B.Performance d' ⟦<B as Clone>⟧ e') A.Performance B.Performance }
+    ensures or_out_any { (d e : Dict) → DeclaresAs (or_out_kind A.row A.Performance d ⟦<A as Clone>⟧ e) A.Performance }
     ensures or_out { DeclaresAs ⟦<OrOut<A> as Performance>⟧ A.Performance }
 {}

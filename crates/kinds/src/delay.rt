@@ -58,12 +58,7 @@ impl Performance for Delay {
     }
 
     fn in_bridge(a: Delay, b: Delay, c: Delay, d: Delay, e: Delay) -> Delay {
-        // In full, as in two more kinds: a method may not call what is generic over its own trait and type.
-        let upper = a.capped_sum(d);
-        let lower = b.capped_sum(e);
-        let down = a.capped_sum(c).capped_sum(e);
-        let up = b.capped_sum(c).capped_sum(d);
-        upper.smaller(lower).smaller(down).smaller(up)
+        Delay::through_paths(a, b, c, d, e)
     }
 
     fn satisfies(self, demand: Delay) -> bool {

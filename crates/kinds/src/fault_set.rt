@@ -57,15 +57,7 @@ impl Performance for FaultSet {
     }
 
     fn in_bridge(a: FaultSet, b: FaultSet, c: FaultSet, d: FaultSet, e: FaultSet) -> FaultSet {
-        // In full, as in two more kinds: a method may not call what is generic over its own trait and type.
-        let upper = a.union(d);
-        let lower = b.union(e);
-        let down = a.union(c).union(e);
-        let up = b.union(c).union(d);
-        upper
-            .intersection(lower)
-            .intersection(down)
-            .intersection(up)
+        FaultSet::through_paths(a, b, c, d, e)
     }
 
     fn satisfies(self, demand: FaultSet) -> bool {

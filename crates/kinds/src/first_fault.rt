@@ -9,17 +9,6 @@ use crate::performance::Performance;
 use crate::values::FirstFault;
 use std::cmp::Ordering;
 
-impl FirstFault {
-    ghost use Rattle.std.specs.Prelude.{◌≡◌};
-    ghost use Rattle.kinds.specs.Words.{holds_number};
-
-    fn is_healthy(self) -> bool
-        ensures { result ≡ holds_number 0 self }
-    {
-        self.number() == 0
-    }
-}
-
 impl Performance for FirstFault {
     const SERIES_ORDER_COUNTS: bool = true;
 
@@ -61,11 +50,11 @@ impl Performance for FirstFault {
     }
 
     fn in_series(self, other: FirstFault) -> FirstFault {
-        if self.is_healthy() { other } else { self }
+        if self.is_zero() { other } else { self }
     }
 
     fn in_parallel(self, other: FirstFault) -> FirstFault {
-        if !self.is_healthy() && other.is_healthy() {
+        if !self.is_zero() && other.is_zero() {
             other
         } else {
             self
@@ -79,15 +68,10 @@ impl Performance for FirstFault {
         d: FirstFault,
         e: FirstFault,
     ) -> FirstFault {
-        // In full, as in two more kinds: a method may not call what is generic over its own trait and type.
-        let upper = a.in_series(d);
-        let lower = b.in_series(e);
-        let down = a.in_series(c).in_series(e);
-        let up = b.in_series(c).in_series(d);
-        upper.in_parallel(lower).in_parallel(down).in_parallel(up)
+        FirstFault::through_paths(a, b, c, d, e)
     }
 
     fn satisfies(self, demand: FirstFault) -> bool {
-        self.is_healthy() || self == demand
+        self.is_zero() || self == demand
     }
 }

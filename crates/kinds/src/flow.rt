@@ -57,7 +57,7 @@ impl Performance for Flow {
     }
 
     fn in_bridge(a: Flow, b: Flow, c: Flow, d: Flow, e: Flow) -> Flow {
-        // By the cuts; the other kinds go by the paths.
+        // By the cuts, where other kinds go by the paths.
         let source = a.capped_sum(b);
         let sink = d.capped_sum(e);
         let down = a.capped_sum(c).capped_sum(e);

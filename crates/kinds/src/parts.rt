@@ -48,6 +48,6 @@ impl Weight for Parts {
     }
 
     fn is_nothing(self) -> bool {
-        self.number() == 0
+        self.is_zero()
     }
 }

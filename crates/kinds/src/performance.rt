@@ -3,6 +3,7 @@ ghost use Rattle.std.specs.Prelude.{◌≡◌, Bool, false};
 ghost use Rattle.std.specs.declared.cmp.Ordering.TheVariants.{Less, Equal};
 ghost use Rattle.std.specs.declared.cmp.Ordering.{Ordering};
 ghost use Rattle.std.specs.Ordering.{ordering_reverse};
+ghost use Rattle.kinds.specs.Paths.{by_paths};
 
 use std::cmp::Ordering;
 
@@ -43,6 +44,17 @@ pub trait Performance: Copy {
 
     fn satisfies(self, demand: Self) -> bool
         ensures { result ≡ meets self demand };
+
+    // A bridge by its paths, for kinds that want it: a-d, b-e, a-c-e and b-c-d in series, joined in parallel in this order.
+    fn through_paths(a: Self, b: Self, c: Self, d: Self, e: Self) -> Self
+        ensures { result ≡ by_paths series parallel a b c d e }
+    {
+        let upper = a.in_series(d);
+        let lower = b.in_series(e);
+        let down = a.in_series(c).in_series(e);
+        let up = b.in_series(c).in_series(d);
+        upper.in_parallel(lower).in_parallel(down).in_parallel(up)
+    }
 
     ghost same_identical: { (a b : Self) → compared a b ≡ Equal → a ≡ b };
 

@@ -15,7 +15,7 @@ pub struct Word<Of> {
     ghost fits: { bits < 2 ^ 32 },
 }
 
-// By hand: a derive would ask both of `Of`, and none is allowed beside a ghost field.
+// By hand: a derive would ask both of `Of`, and `derive_where` is refused beside a ghost field.
 impl<Of> Clone for Word<Of> {
     ghost is_clone = { λ x y. y ≡ x };
 
@@ -38,9 +38,9 @@ impl<Of> fmt::Display for Word<Of> {
 
 impl<Of> Word<Of> {
     ghost use Rattle.kinds.specs.Holding.{Holds};
-    ghost use Rattle.kinds.specs.Words.{number, smaller, word_sum, word_product, union, intersection};
+    ghost use Rattle.kinds.specs.Words.{number, holds_number, smaller, word_sum, word_product, union, intersection};
 
-    // The one place where a value is made. Not `From<u32>`: `Flow::new(3)` says of what the number is.
+    // The one place where a value is made. `From<u32>` would be a second way that promises the same.
     pub fn new(bits: u32) -> Word<Of>
         ensures { Holds number bits result }
     {
@@ -54,6 +54,12 @@ impl<Of> Word<Of> {
         ensures { result ≡ number self }
     {
         self.bits
+    }
+
+    pub(crate) fn is_zero(self) -> bool
+        ensures { result ≡ holds_number 0 self }
+    {
+        self.number() == 0
     }
 
     pub(crate) fn smaller(self, other: Word<Of>) -> Word<Of>

@@ -24,19 +24,23 @@ module _ {P W : Type 0} (kind : Performance.Ghosts P) (weights : Weight.Ghosts W
   -- more terms are merged onto the row, in the same room
   pub record Grows (more : List (Term P W)) (before after : Row P W) (answer : Option (Unit {0})) : Type 0 where
     pub same_room : after.room.ghost_name ≡ before.room.ghost_name
-    pub merged : IsRow kind weights (take before.len before.room.now) → Merges kind weights (more ++ take before.len before.room.now) after.room.now (length_if answer after.len)
+    pub merged : IsRow kind weights (take before.filled.len before.room.now) → Merges kind weights (more ++ take before.filled.len before.room.now) after.room.now (length_if answer after.filled.len)
 
   -- the same of one term of no performance in the row, which belongs at the place i
   pub record GrowsAt (t : Term P W) (i : ℕ) (before after : Row P W) (answer : Option (Unit {0})) : Type 0 where
     pub same_room : after.room.ghost_name ≡ before.room.ghost_name
     pub merged :
-        IsRow kind weights (take before.len before.room.now) →
-        IsPartitionPoint (λ x. kind.compared x.performance t.performance ≡ Less) (λ x. kind.compared x.performance t.performance ≡ Greater) (take before.len before.room.now) i →
-        Merges kind weights (t ∷ take before.len before.room.now) after.room.now (length_if answer after.len)
+        IsRow kind weights (take before.filled.len before.room.now) →
+        IsPartitionPoint (λ x. kind.compared x.performance t.performance ≡ Less) (λ x. kind.compared x.performance t.performance ≡ Greater) (take before.filled.len before.room.now) i →
+        Merges kind weights (t ∷ take before.filled.len before.room.now) after.room.now (length_if answer after.filled.len)
 
   -- a call of the step for x merges `gives x` onto the row
   abbrev pub StepGrows : (MutBor (Row P W) → Term P W → Option (Unit {0}) → MutBor (Row P W) → Type 0) → (Term P W → List (Term P W)) → Type 0
   StepGrows post gives = (row after : MutBor (Row P W)) (x : Term P W) (answer : Option (Unit {0})) → post row x answer after → Grows (gives x) row.now after.now answer
+
+  -- the claim holds of whatever the calls of the step are known to give
+  abbrev pub OfStep : (MutBor (Row P W) → Term P W → Option (Unit {0}) → MutBor (Row P W) → Type 0) → ((Term P W → List (Term P W)) → Type 0) → Type 0
+  OfStep post claim = (gives : Term P W → List (Term P W)) → StepGrows post gives → claim gives
 
   -- what a term whose weight is nothing gives, has no weight either
   abbrev pub GivesNothing : (Term P W → List (Term P W)) → Type 0

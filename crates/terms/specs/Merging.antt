@@ -1,5 +1,5 @@
 -- What merging terms into lent memory answers, and what it leaves there.
-use Rattle.std.specs.Prelude.{◌≡◌, ℕ, ◌<◌, ◌≤◌, List, ◌∷◌, ◌++◌, length, take, Some, None, Option}
+use Rattle.std.specs.Prelude.{◌≡◌, ℕ, ◌<◌, ◌≤◌, List, ◌∷◌, length, take, Some, None, Option}
 use Rattle.kinds.specs.declared.performance.Performance
 use Rattle.kinds.specs.declared.weight.Weight
 use Rattle.terms.specs.declared.term.Term.{Term}
@@ -22,10 +22,6 @@ module _ {P W : Type 0} (kind : Performance.Ghosts P) (weights : Weight.Ghosts W
   abbrev pub Merges : List (Term P W) → List (Term P W) → Option ℕ → Type 0
   Merges ts room (Some n) = (n ≤ length room) × RowOf kind weights ts (take n room)
   Merges ts room None = (r : List (Term P W)) × RowOf kind weights ts r × (length room < length r)
-
-  -- Merging more terms onto the row in the first n places of a room.
-  abbrev pub MergesOnto : List (Term P W) → ℕ → List (Term P W) → List (Term P W) → Option ℕ → Type 0
-  MergesOnto more n before after answer = Merges (more ++ take n before) after answer
 
   -- Adding t to the row in the first n places of a room. A room shorter than n is refused and stays as it was.
   -- Whatever stands there, an answer is no longer than the room.

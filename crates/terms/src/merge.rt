@@ -30,8 +30,5 @@ pub fn add<P: Performance, W: Weight>(
     }
     let mut row = Row::standing(room, filled);
     row.put(t)?;
-    Some(Filled {
-        len: row.len,
-        last: row.last,
-    })
+    Some(row.filled)
 }

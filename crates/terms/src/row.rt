@@ -7,20 +7,18 @@ use crate::term::{Filled, Term};
 use kinds::performance::Performance;
 use kinds::weight::Weight;
 
-// The row in the first `len` places of `room`. `last` is the place of the term that was merged last, where the
-// search for the next one begins; it is a hint, and any number does.
+// A row in the first places of a room. The room is the caller's, and so is what tells how far it is filled.
 #[derive(Drop)]
 pub(crate) struct Row<'a, P, W> {
     pub(crate) room: &'a mut [Term<P, W>],
-    pub(crate) len: usize,
-    pub(crate) last: usize,
-    ghost fits: { len ≤ length room.now },
+    pub(crate) filled: Filled,
+    ghost fits: { filled.len ≤ length room.now },
 }
 
 impl<'a, P: Performance, W: Weight> Row<'a, P, W> {
-    ghost use Rattle.std.specs.Prelude.{List, [], ◌∷◌};
+    ghost use Rattle.std.specs.Prelude.{[], ◌∷◌};
     ghost use Rattle.terms.specs.Combinations.{each};
-    ghost use Rattle.terms.specs.Growing.{Grows, GrowsAt, StepGrows, GivesNothing, scaled};
+    ghost use Rattle.terms.specs.Growing.{Grows, GrowsAt, OfStep, GivesNothing, scaled};
     ghost use Rattle.terms.specs.Merging.{Merges};
 
     // The row of what a step for each of `xs` adds, in the first places of `room`; None where it is longer than the room.
@@ -30,37 +28,21 @@ impl<'a, P: Performance, W: Weight> Row<'a, P, W> {
         step: F,
     ) -> Option<usize>
         requires { F.IsAlwaysCallable step }
-        ensures { (gives : Term P W → List (Term P W)) → StepGrows P.Performance W.Weight (F.post step) gives → Merges P.Performance W.Weight (each xs.now gives) room.new result }
+        ensures { OfStep P.Performance W.Weight (F.post step) (λ gives. Merges P.Performance W.Weight (each xs.now gives) room.new result) }
     {
-        let mut row = Row::empty(room);
+        let mut row = Row::standing(room, Filled { len: 0, last: 0 });
         row.for_each(xs, step)?;
-        Some(row.len)
+        Some(row.filled.len)
     }
 
-    // A room with no term in it yet.
-    pub(crate) fn empty(room: &'a mut [Term<P, W>]) -> Row<'a, P, W>
-        ensures same_room { result.room.ghost_name ≡ room.entry.ghost_name }
-        ensures empty { result.len ≡ 0 }
-    {
-        Row {
-            room,
-            len: 0,
-            last: 0,
-        }
-    }
-
-    // The row that stands in the first `filled.len` places of a room.
+    // The row that stands in the first `filled.len` places of a room, which its two callers know to be there.
     pub(crate) fn standing(room: &'a mut [Term<P, W>], filled: Filled) -> Row<'a, P, W>
         requires { filled.len ≤ length room.old }
         ensures same_room { result.room.ghost_name ≡ room.entry.ghost_name }
         ensures untouched { result.room.now ≡ room.old }
-        ensures len { result.len ≡ filled.len }
+        ensures filled { result.filled ≡ filled }
     {
-        Row {
-            room,
-            len: filled.len,
-            last: filled.last,
-        }
+        Row { room, filled }
     }
 
     // Takes a step for each of `xs`; None as soon as a step answers None.
@@ -70,7 +52,7 @@ impl<'a, P: Performance, W: Weight> Row<'a, P, W> {
         step: F,
     ) -> Option<()>
         requires { F.IsAlwaysCallable step }
-        ensures { (gives : Term P W → List (Term P W)) → StepGrows P.Performance W.Weight (F.post step) gives → Grows P.Performance W.Weight (each xs.now gives) self.old self.new result }
+        ensures { OfStep P.Performance W.Weight (F.post step) (λ gives. Grows P.Performance W.Weight (each xs.now gives) self.old self.new result) }
     {
         for x in xs {
             step(self, *x)?;
@@ -86,7 +68,7 @@ impl<'a, P: Performance, W: Weight> Row<'a, P, W> {
         step: F,
     ) -> Option<()>
         requires { F.IsAlwaysCallable step }
-        ensures { (gives : Term P W → List (Term P W)) → StepGrows P.Performance W.Weight (F.post step) gives → GivesNothing P.Performance W.Weight gives → Grows P.Performance W.Weight (each xs.now (λ x. gives (scaled W.Weight weight x))) self.old self.new result }
+        ensures { OfStep P.Performance W.Weight (F.post step) (λ gives. GivesNothing P.Performance W.Weight gives → Grows P.Performance W.Weight (each xs.now (λ x. gives (scaled W.Weight weight x))) self.old self.new result) }
     {
         if weight.is_nothing() {
             return Some(());
@@ -95,7 +77,7 @@ impl<'a, P: Performance, W: Weight> Row<'a, P, W> {
             xs,
             |row, x|
                 requires { F.IsAlwaysCallable step }
-                ensures { (gives : Term P W → List (Term P W)) → StepGrows P.Performance W.Weight (F.post step) gives → Grows P.Performance W.Weight (gives (scaled W.Weight weight x)) row.old row.new result }
+                ensures { OfStep P.Performance W.Weight (F.post step) (λ gives. Grows P.Performance W.Weight (gives (scaled W.Weight weight x)) row.old row.new result) }
             { step(row, scaled(weight, x)) },
         )
     }
@@ -105,10 +87,10 @@ impl<'a, P: Performance, W: Weight> Row<'a, P, W> {
         ensures { Grows P.Performance W.Weight (t ∷ []) self.old self.new result }
     {
         let room = &mut *self.room;
-        match place(&room[..self.len], self.last, t.performance) {
+        match place(&room[..self.filled.len], self.filled.last, t.performance) {
             Ok(at) => {
                 room[at] = grown(room[at], t.weight);
-                self.last = at;
+                self.filled.last = at;
                 Some(())
             }
             Err(at) => self.insert(at, t),
@@ -117,19 +99,19 @@ impl<'a, P: Performance, W: Weight> Row<'a, P, W> {
 
     // Puts a term in at the place `at`, between the lesser and the greater ones; the greater ones move up.
     fn insert(&mut self, at: usize, t: Term<P, W>) -> Option<()>
-        requires { at ≤ self.old.len }
+        requires { at ≤ self.old.filled.len }
         ensures { GrowsAt P.Performance W.Weight t at self.old self.new result }
     {
-        self.last = at;
+        self.filled.last = at;
         if weighs_nothing(t) {
             return Some(());
         }
-        if self.len == self.room.len() {
+        if self.filled.len == self.room.len() {
             return None;
         }
-        self.room.copy_within(at..self.len, at + 1);
+        self.room.copy_within(at..self.filled.len, at + 1);
         self.room[at] = t;
-        self.len += 1;
+        self.filled.len += 1;
         Some(())
     }
 }

@@ -56,12 +56,7 @@ impl Performance for Service {
     }
 
     fn in_bridge(a: Service, b: Service, c: Service, d: Service, e: Service) -> Service {
-        let direct = a.in_series(d).in_parallel(b.in_series(e));
-        let crossed = a
-            .in_series(c)
-            .in_series(e)
-            .in_parallel(b.in_series(c).in_series(d));
-        direct.in_parallel(crossed)
+        Service::through_paths(a, b, c, d, e)
     }
 
     fn satisfies(self, demand: Service) -> bool {

@@ -12,7 +12,7 @@ loop-x-preserved g c = λ gives grows.
       merged = λ row.
           let m = so_far.merged row in
           let n = now.merged m.1.row in
-          (n.0, each_more (lawful_kind g.met.P.Performance) (lawful_weight g.met.W.Weight) c.args.xs.now gives (take c.args.self.now.len c.args.self.now.room.now) _ c.loop-x.x-index c.x-item.result c.loop-x-test.true c.x-item.is m.1.same _ n.1);
+          (n.0, each_more (lawful_kind g.met.P.Performance) (lawful_weight g.met.W.Weight) c.args.xs.now gives (take c.args.self.now.filled.len c.args.self.now.room.now) _ c.loop-x.x-index c.x-item.result c.loop-x-test.true c.x-item.is m.1.same _ n.1);
     }
 
 pub returns-in_err-step : goal.returns-in_err-step
@@ -23,7 +23,7 @@ returns-in_err-step g c = rw c.from_residual.ensures (λ gives grows.
       same_room = now.same_room ∙ so_far.same_room;
       merged = λ row.
           let m = so_far.merged row in
-          each_refused (lawful_kind g.met.P.Performance) (lawful_weight g.met.W.Weight) c.args.xs.now gives (take c.args.self.now.len c.args.self.now.room.now) _ c.loop-x.x-index c.x-item.result c.loop-x-test.true c.x-item.is m.1.same _ (now.merged m.1.row);
+          each_refused (lawful_kind g.met.P.Performance) (lawful_weight g.met.W.Weight) c.args.xs.now gives (take c.args.self.now.filled.len c.args.self.now.room.now) _ c.loop-x.x-index c.x-item.result c.loop-x-test.true c.x-item.is m.1.same _ (now.merged m.1.row);
     })
 
 pub returns : goal.returns
@@ -33,5 +33,5 @@ returns g c = λ gives grows.
       same_room = so_far.same_room;
       merged = λ row.
           let m = so_far.merged row in
-          (m.0, each_all (lawful_kind g.met.P.Performance) (lawful_weight g.met.W.Weight) c.args.xs.now gives (take c.args.self.now.len c.args.self.now.room.now) _ c.loop-x.x-index c.loop-x-test.false m.1);
+          (m.0, each_all (lawful_kind g.met.P.Performance) (lawful_weight g.met.W.Weight) c.args.xs.now gives (take c.args.self.now.filled.len c.args.self.now.room.now) _ c.loop-x.x-index c.loop-x-test.false m.1);
     }
