@@ -8,7 +8,7 @@ ghost use Rattle.kinds.specs.Declares.{NamedDeclare, DeclaresEither, DeclaresAs}
 use crate::performance::Performance;
 use crate::values::{OrOut, Pair};
 
-// What a kind declares, for series and for parallel: a struct of two flags would say no more.
+// What a kind declares, for series and for parallel; a struct of two flags would say no more.
 pub fn order_counts<K: Performance>() -> (bool, bool)
     ensures { result ≡ (K.SERIES_ORDER_COUNTS, K.PARALLEL_ORDER_COUNTS) }
 {

@@ -44,8 +44,8 @@ pub struct Pair<A, B> {
     pub second: B,
 }
 
-// A performance, or no service at all. Not `Option`: out is a value of a kind, and a rule of the project gives it a type of
-// its own.
+// A performance, or no service at all. Not `Option`: a rule of the project gives kinds with out a type of their own
+// (docs/DECISIONS.md).
 #[derive(Clone, Copy, PartialEq, Eq, Debug)]
 pub enum OrOut<K> {
     Out,

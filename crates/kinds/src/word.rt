@@ -71,12 +71,13 @@ impl<Of> Word<Of> {
     pub(crate) fn capped_sum(self, other: Word<Of>) -> Word<Of>
         ensures { result ≡ word_sum self other }
     {
-        Word::new(cap(self.bits as u64 + other.bits as u64))
+        Word::new(self.bits.saturating_add(other.bits))
     }
 
     pub(crate) fn capped_product(self, other: Word<Of>) -> Word<Of>
         ensures { result ≡ word_product self other }
     {
+        // Not `saturating_mul`, which divides: bridges of fault sets with parts take half as long again.
         Word::new(cap(self.bits as u64 * other.bits as u64))
     }
 

@@ -7,7 +7,8 @@ use crate::term::Term;
 use kinds::performance::Performance;
 use kinds::weight::Weight;
 
-// The row of the combinations of the arms a to e (five slices, so that the contract names each), in the first places of `room`; None where the row is longer than the room.
+// The length of the row of the combinations of the arms a to e (five slices, so that the contract names each), which stands in the
+// first places of `room`, memory that is lent; None where it is longer than the room.
 pub fn bridge<P: Performance, W: Weight>(
     arm_a: &[Term<P, W>],
     arm_b: &[Term<P, W>],

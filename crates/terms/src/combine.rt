@@ -9,7 +9,8 @@ use crate::term::{Term, Way};
 use kinds::performance::Performance;
 use kinds::weight::Weight;
 
-// The row of the combinations of `xs` and `ys`, in the first places of `room`; None where the row is longer than the room.
+// The length of the row of the combinations of `xs` and `ys`, which stands in the first places of `room`, memory that is lent; None where
+// it is longer than the room.
 pub fn combine<P: Performance, W: Weight>(
     way: Way,
     xs: &[Term<P, W>],
@@ -29,7 +30,7 @@ pub fn combine_terms<P: Performance, W: Weight>(
 ) -> Term<P, W>
     ensures { result ≡ combined W.Weight (joins P.Performance way) x y }
 {
-    // A way is a value that drawings hold, so the choice of the operation is made here.
+    // The public calls take the way as a value, so the choice of the operation is made here.
     let performance = match way {
         Way::Series => x.performance.in_series(y.performance),
         Way::Parallel => x.performance.in_parallel(y.performance),

@@ -6,7 +6,8 @@ use crate::term::{Filled, Term};
 use kinds::performance::Performance;
 use kinds::weight::Weight;
 
-// The row of `terms`, in the first places of `room`; None where the row is longer than the room.
+// The length of the row of `terms`, which stands in the first places of `room`, memory that is lent; None where it is longer
+// than the room.
 pub fn merge<P: Performance, W: Weight>(
     terms: &[Term<P, W>],
     room: &mut [Term<P, W>],

@@ -46,6 +46,7 @@ fn weights_stop_at_the_top(rt: HostRuntime) {
     assert_eq!(rt; total.number(), 4294967295);
 }
 
+// Two functions, not one with a const parameter: `map` must know that the array fits memory.
 fn units() -> [State; 8] {
     [0, 1, 2, 3, 4, 5, 6, 7].map(|rate| state(rate, 1))
 }
