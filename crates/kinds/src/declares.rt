@@ -20,7 +20,7 @@ pub fn named_kinds_declare()
     ensures { NamedDeclare }
 {}
 
-// What pairs and kinds with out declare.
+// What pairs and kinds with out declare: the impls at hand, and any that is made of others' copies of the kinds within.
 pub fn composed_kinds_declare<A: Performance, B: Performance>()
     ensures pair { DeclaresEither ⟦<Pair<A, B> as Performance>⟧ A.Performance B.Performance }
     ensures pair_any { (d e d' e' : Dict) →

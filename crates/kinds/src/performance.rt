@@ -29,7 +29,8 @@ pub trait Performance: Copy {
     // a value held against a demand
     ghost meets: { Self → Self → Bool };
 
-    // Not `Ord` as a supertrait: its ghosts are a record apart, which each definition and clause on a kind would take besides.
+    // Not `Ord` as a supertrait: its ghosts are a record apart, which each definition and clause on a kind would take besides. A
+    // trait for the parameters of `Word`, with one impl of this one, would repeat all but the order.
     fn order(self, other: Self) -> Ordering
         ensures { result ≡ compared self other };
 
@@ -39,6 +40,7 @@ pub trait Performance: Copy {
     fn in_parallel(self, other: Self) -> Self
         ensures { result ≡ parallel self other };
 
+    // Five values, so that clauses and each kind's formula name the arms; a struct would be no plainer.
     fn in_bridge(a: Self, b: Self, c: Self, d: Self, e: Self) -> Self
         ensures { result ≡ bridge a b c d e };
 

@@ -44,7 +44,7 @@ fn out_in_every_arm(rt: HostRuntime) {
     assert_eq!(rt; OrOut::in_bridge(out, out, c, d, e), out, "arms a and b");
 }
 
-// The constants themselves: `order_counts` is what is tested.
+// The constants themselves, since `order_counts` is what is tested; two flags, as it answers them.
 fn constants<K: Performance>() -> (bool, bool) {
     (K::SERIES_ORDER_COUNTS, K::PARALLEL_ORDER_COUNTS)
 }

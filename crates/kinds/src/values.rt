@@ -44,8 +44,8 @@ pub struct Pair<A, B> {
     pub second: B,
 }
 
-// A performance, or no service at all. Not `Option`: a rule of the project gives kinds with out a type of their own
-// (docs/DECISIONS.md).
+// A performance, or no service at all. `Option` would be no plainer: out is a performance, with an order and a place in each
+// operation, and not the want of one.
 #[derive(Clone, Copy, PartialEq, Eq, Debug)]
 pub enum OrOut<K> {
     Out,

@@ -15,7 +15,7 @@ pub struct Word<Of> {
     ghost fits: { bits < 2 ^ 32 },
 }
 
-// By hand: a derive would ask both of `Of`, and `derive_where` is refused beside a ghost field.
+// By hand: a derive would ask both of `Of`, and `derive_where(Clone, Copy)` is refused beside a ghost field.
 impl<Of> Clone for Word<Of> {
     ghost is_clone = { λ x y. y ≡ x };
 
@@ -50,6 +50,7 @@ impl<Of> Word<Of> {
         }
     }
 
+    // `From<Word<Of>>` would be a second way that promises the same.
     pub fn number(self) -> u32
         ensures { result ≡ number self }
     {
@@ -77,7 +78,7 @@ impl<Of> Word<Of> {
     pub(crate) fn capped_product(self, other: Word<Of>) -> Word<Of>
         ensures { result ≡ word_product self other }
     {
-        // Not `saturating_mul`, which divides: bridges of fault sets with parts take half as long again.
+        // Not `saturating_mul`, which divides: bridges of fault sets with parts take half as long again, past the bar of docs/SPEED.md.
         Word::new(cap(self.bits as u64 * other.bits as u64))
     }
 

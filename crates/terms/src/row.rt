@@ -15,6 +15,7 @@ pub(crate) struct Row<'a, P, W> {
     ghost fits: { filled.len ≤ length room.now },
 }
 
+// IsAlwaysCallable: the toolchain asks it of whoever calls a parameter.
 impl<'a, P: Performance, W: Weight> Row<'a, P, W> {
     ghost use Rattle.std.specs.Prelude.{[], ◌∷◌};
     ghost use Rattle.terms.specs.Combinations.{each};
@@ -35,7 +36,8 @@ impl<'a, P: Performance, W: Weight> Row<'a, P, W> {
         Some(row.filled.len)
     }
 
-    // The row that stands in the first `filled.len` places of a room, which its two callers know to be there.
+    // The row that stands in the first `filled.len` places of a room, which its two callers know to be there: asked, since the room is the
+    // caller's, lent from call to call.
     pub(crate) fn standing(room: &'a mut [Term<P, W>], filled: Filled) -> Row<'a, P, W>
         requires { filled.len ≤ length room.old }
         ensures same_room { result.room.ghost_name ≡ room.entry.ghost_name }

@@ -22,7 +22,7 @@ pub fn total<P: Performance, W: Weight>(row: &[Term<P, W>]) -> W
     sum_of(row, |t| t.weight)
 }
 
-// The sum of what each term of the row gives.
+// The sum of what each term of the row gives. IsAlwaysCallable: the toolchain asks it of whoever calls a parameter.
 fn sum_of<P: Performance, W: Weight, F: Fn(Term<P, W>) -> W>(row: &[Term<P, W>], gives: F) -> W
     requires { F.IsAlwaysCallable gives }
     ensures { (given : Term P W → W) → Gives (F.post gives) given → result ≡ sum_over W.Weight given row.now }

@@ -26,6 +26,7 @@ returns-in_err-step g c = rw c.from_residual.ensures (λ gives grows.
           each_refused (lawful_kind g.met.P.Performance) (lawful_weight g.met.W.Weight) c.args.xs.now gives (take c.args.self.now.filled.len c.args.self.now.room.now) _ c.loop-x.x-index c.x-item.result c.loop-x-test.true c.x-item.is m.1.same _ (now.merged m.1.row);
     })
 
+-- tried without: at half the search's limits the proof does not close
 pub returns : goal.returns
 returns g c = λ gives grows.
     let so_far = c.loop-x.invariant gives grows in
