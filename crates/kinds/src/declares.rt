@@ -20,7 +20,7 @@ pub fn named_kinds_declare()
     ensures { NamedDeclare }
 {}
 
-// What pairs and kinds with out declare: the impls at hand, and any that is made of others' copies of the kinds within.
+// What pairs and kinds with out declare; in `pair_any` and `or_out_any` whatever impls of the bounds the `Dict`s stand for.
 pub fn composed_kinds_declare<A: Performance, B: Performance>()
     ensures pair { DeclaresEither ⟦<Pair<A, B> as Performance>⟧ A.Performance B.Performance }
     ensures pair_any { (d e d' e' : Dict) →

@@ -1,8 +1,11 @@
 // The lines that the program prints.
 ghost use Rattle.std.specs.Prelude.{◌≡◌, ◌++◌, Some};
+ghost use Rattle.terms.specs.Sums.{met_of, total_of};
 ghost use Rattle.worked.specs.Lines.{row_text, need_text, demand_text};
 
+use kinds::performance::Performance;
 use kinds::values::{Flow, Parts};
+use kinds::weight::Weight;
 use std::fmt;
 use terms::sums::availability;
 use terms::term::Term;
@@ -45,7 +48,10 @@ pub struct Need {
 
 impl Need {
     pub fn of(demand: Flow, row: &[Term<Flow, Parts>]) -> Need
-        ensures { need_text result.demand result.met result.all ≡ demand_text demand row.now }
+        ensures text { need_text result.demand result.met result.all ≡ demand_text demand row.now }
+        ensures demand { result.demand ≡ demand }
+        ensures met { result.met ≡ met_of ⟦<Flow as Performance>⟧ ⟦<Parts as Weight>⟧ demand row.now }
+        ensures all { result.all ≡ total_of ⟦<Parts as Weight>⟧ row.now }
     {
         let (met, all) = availability(row, demand);
         Need { demand, met, all }
