@@ -1,0 +1,6 @@
+use Rattle.std.proofs.Common.{◌≤◌, arith}
+use Rattle.std.proofs.lemmas.List.Elements.{All-replicate}
+use Rattle.diagram.proofs.table.Table.empty.Goals as goal
+
+pub returns-clause-sound : goal.returns-clause-sound
+returns-clause-sound c = record { few = omega arith; short = All-replicate (λ n. n ≤ 8) 48 0 (omega arith); at = λ k h. absurd (omega (arith, h)) }

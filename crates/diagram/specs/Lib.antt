@@ -1,0 +1,13 @@
+pub mod Refusals
+pub mod Nodes
+pub mod Records
+pub mod Changes
+pub mod Writing
+pub mod Store
+pub mod Results
+pub mod Working
+pub mod Histories
+pub mod RightAnswers
+pub mod Calls
+pub mod Shown
+pub mod Runs

@@ -1,0 +1,28 @@
+-- What the record of one node tells.
+use Rattle.std.specs.Prelude.{◌≡◌, ℕ, ◌≤◌, None}
+use Rattle.diagram.specs.declared.node.Form.{Form}
+use Rattle.diagram.specs.declared.node.Form.TheVariants.{Part, Joined, Bridge}
+use Rattle.diagram.specs.declared.node.Status.{Status}
+use Rattle.diagram.specs.declared.node.Status.TheVariants.{Stale, UpToDate}
+use Rattle.diagram.specs.declared.node.Event.{Event}
+use Rattle.diagram.specs.declared.node.Event.TheVariants.{Restated, Collected}
+use Rattle.diagram.specs.declared.node.Node.{Node}
+
+-- how many children a form takes
+abbrev pub Takes : Form → ℕ → Type 0
+Takes Part n = n ≡ 0
+Takes (Joined way) n = (2 ≤ n) × (n ≤ 8)
+Takes Bridge n = n ≡ 5
+
+-- a part as it is added: up to date and without a user
+abbrev pub part_of : ℕ → Node
+part_of n = record { form = Part; status = UpToDate; user = None; size = n }
+
+-- a joined node as it is made: stale, without a user and without a row
+abbrev pub joined_by : Form → Node
+joined_by f = record { form = f; status = Stale; user = None; size = 0 }
+
+-- where an event moves a joined node
+abbrev pub status_after : Event → Status
+status_after Restated = Stale
+status_after Collected = UpToDate

@@ -1,0 +1,34 @@
+-- Cited by private functions only: what working out a row in the store answers and leaves.
+use Rattle.std.specs.Prelude.{◌≡◌, ℕ, ◌<◌, ◌≤◌, List, map, length, take, Option, Some, None, MatchOption}
+use Rattle.kinds.specs.declared.performance.Performance
+use Rattle.kinds.specs.declared.weight.Weight
+use Rattle.terms.specs.declared.term.Term.{Term}
+use Rattle.terms.specs.Rows.{RowOf}
+use Rattle.diagram.specs.declared.table.Table.{Table}
+use Rattle.diagram.specs.Records.{form_at, size_at, children_at}
+use Rattle.diagram.specs.Store.{row_at, Kept, no_node, RowPut}
+use Rattle.diagram.specs.Results.{LastResult}
+
+-- c has places in the store, in which its row fits
+abbrev pub InStore : Table → ℕ → Type 0
+InStore t c = (c < 48) × (size_at t c ≤ 64)
+
+-- what is so of an answer, and if it is a row, then that stands in the first places of a working row and n is its length
+abbrev pub Stands : {T : Type 0} → (Option (List T) → Type 0) → List T → Option ℕ → Type 0
+Stands {T} IsSo after n =
+    (answer : Option (List T)) × IsSo answer
+    × MatchOption answer (n ≡ None) (λ row. (n ≡ Some (length row)) × (length row ≤ length after) × (take (length row) after ≡ row))
+
+module _ {P W : Type 0} (kind : Performance.Ghosts P) (weights : Weight.Ghosts W) where
+  abbrev Terms : Type 0
+  Terms = List (Term P W)
+
+  -- the row of these terms is put at node k, and n is its length
+  abbrev pub RowMade : ℕ → Terms → Terms → Terms → ℕ → Type 0
+  RowMade k ts before after n = (row : Terms) × RowOf kind weights ts row × (n ≡ length row) × RowPut k row before after
+
+  -- node k is worked out from the rows of its children: its row is put, or a running result is longer than 64 terms
+  abbrev pub WorkedOut : Table → ℕ → Terms → Terms → Option ℕ → Type 0
+  WorkedOut t k before after n =
+      (answer : Option Terms) × LastResult kind weights (form_at t k) (map (row_at t before) (children_at t k)) answer
+      × MatchOption answer ((n ≡ None) × Kept no_node before after) (λ row. (n ≡ Some (length row)) × RowPut k row before after)

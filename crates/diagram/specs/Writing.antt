@@ -1,0 +1,24 @@
+-- Cited by private functions only: what loops over the table write.
+use Rattle.std.specs.Prelude.{◌≡◌, ◌⊎◌, ◌↔◌, ℕ, ◌<◌, List, length, Some, if◌then◌else◌, ◌==◌}
+use Rattle.std.specs.List.{list_any}
+use Rattle.diagram.specs.declared.node.Status.TheVariants.{Stale}
+use Rattle.diagram.specs.declared.table.Table.{Table}
+use Rattle.diagram.specs.Records.{node_at, status_at, children_at, Beneath}
+
+-- nothing but nodes is written
+pub record NodesOnly (t t' : Table) : Type 0 where
+  pub nodes : length t'.nodes ≡ length t.nodes
+  pub children : t'.children ≡ t.children
+  pub arities : t'.arities ≡ t.arities
+  pub count : t'.count ≡ t.count
+
+-- u is the user of the named nodes
+pub record UserSet (t t' : Table) (named : List ℕ) (u : ℕ) : Type 0 where
+  pub rest : NodesOnly t t'
+  pub nodes : (j : ℕ) → node_at t' j ≡ (if list_any (λ c. j == c) named then record (node_at t j) { user = Some u } else node_at t j)
+
+-- stale is what was so before, and what k is beneath
+pub record MarkedAbove (t t' : Table) (k : ℕ) : Type 0 where
+  pub rest : NodesOnly t t'
+  pub stale : (j : ℕ) → j < t.count → (status_at t' j ≡ Stale) ↔ ((status_at t j ≡ Stale) ⊎ Beneath (children_at t) j k)
+  pub others : (j : ℕ) → record (node_at t' j) { status = Stale } ≡ record (node_at t j) { status = Stale }

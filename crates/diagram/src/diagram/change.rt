@@ -1,0 +1,94 @@
+// The calls that change a diagram's records: adding, joining, restating.
+ghost use Rattle.std.specs.Prelude.{◌≢◌, ◌↔◌, IsTrue};
+ghost use Rattle.diagram.specs.declared.node.Form.TheVariants.{Part, Joined, Bridge};
+ghost use Rattle.diagram.specs.Shown.{records};
+ghost use Rattle.diagram.specs.Calls.{Added, Joins, Restated};
+ghost use Rattle.diagram.specs.RightAnswers.{EnoughStates};
+
+use super::{Diagram, STORE};
+use crate::node::Form;
+use crate::refusal::Refusal;
+use crate::table::are_distinct;
+use crate::work::put_row;
+use kinds::performance::Performance;
+use kinds::weight::Weight;
+use terms::term::{Term, Way};
+
+impl<P: Performance, W: Weight> Diagram<P, W> {
+    // Makes a part from states in any order, and answers its number.
+    pub fn add(&mut self, store: &mut [Term<P, W>], states: &[Term<P, W>]) -> Result<usize, Refusal>
+        ensures { Added P.Performance W.Weight (records self.old) store.old states.now result (records self.new) store.new }
+    {
+        Refusal::ShortStore.unless(store.len() >= STORE)?;
+        Refusal::NoNumberLeft.unless(self.table.count < 48)?;
+        Refusal::WrongStates.unless(may_be_states(states.len()))?;
+        let k = self.table.count;
+        let size = put_row(store, k, states);
+        self.table.add_part(size);
+        Ok(k)
+    }
+
+    // Joins nodes in series or in parallel, in this order, and answers the number of the new node.
+    pub fn join(
+        &mut self,
+        store: &[Term<P, W>],
+        way: Way,
+        children: &[usize],
+    ) -> Result<usize, Refusal>
+        ensures { Joins P.Performance W.Weight (records self.old) store.now (Joined way) children.now result (records self.new) }
+    {
+        self.join_as(store, Form::Joined(way), children)
+    }
+
+    // Joins the five arms a to e of a bridge, and answers the number of the new node.
+    pub fn join_bridge(&mut self, store: &[Term<P, W>], arms: [usize; 5]) -> Result<usize, Refusal>
+        ensures { Joins P.Performance W.Weight (records self.old) store.now Bridge arms result (records self.new) }
+    {
+        self.join_as(store, Form::Bridge, &arms)
+    }
+
+    fn join_as(
+        &mut self,
+        store: &[Term<P, W>],
+        form: Form,
+        children: &[usize],
+    ) -> Result<usize, Refusal>
+        requires { form ≢ Part }
+        ensures { Joins P.Performance W.Weight (records self.old) store.now form children.now result (records self.new) }
+    {
+        Refusal::ShortStore.unless(store.len() >= STORE)?;
+        Refusal::NoNumberLeft.unless(self.table.count < 48)?;
+        Refusal::WrongChildren.unless(form.takes(children.len()))?;
+        Refusal::NoNode.unless(self.table.are_nodes(children))?;
+        Refusal::InUse.unless(self.table.are_free(children))?;
+        Refusal::Repeated.unless(are_distinct(children))?;
+        let k = self.table.count;
+        self.table.join(form, children);
+        Ok(k)
+    }
+
+    // Gives a part new states, and answers how many terms its row has. What the part is beneath becomes stale.
+    pub fn restate(
+        &mut self,
+        store: &mut [Term<P, W>],
+        k: usize,
+        states: &[Term<P, W>],
+    ) -> Result<usize, Refusal>
+        ensures { Restated P.Performance W.Weight (records self.old) store.old k states.now result (records self.new) store.new }
+    {
+        Refusal::ShortStore.unless(store.len() >= STORE)?;
+        Refusal::NoNode.unless(k < self.table.count)?;
+        Refusal::NotPart.unless(self.table.nodes[k].form.is_part())?;
+        Refusal::WrongStates.unless(may_be_states(states.len()))?;
+        let size = put_row(store, k, states);
+        self.table.restate(k, size);
+        Ok(size)
+    }
+}
+
+// May a part have so many states?
+fn may_be_states(n: usize) -> bool
+    ensures { IsTrue result ↔ EnoughStates n }
+{
+    1 <= n && n <= 64
+}

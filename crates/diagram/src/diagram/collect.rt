@@ -1,0 +1,26 @@
+// Collecting: the row of a joined node from the rows of its children.
+ghost use Rattle.diagram.specs.Shown.{records};
+ghost use Rattle.diagram.specs.Calls.{Collected};
+
+use super::{Diagram, STORE};
+use crate::refusal::Refusal;
+use crate::work::work_out;
+use kinds::performance::Performance;
+use kinds::weight::Weight;
+use terms::term::Term;
+
+impl<P: Performance, W: Weight> Diagram<P, W> {
+    // Works out the row of a joined node, and answers how many terms it has. The node is then up to date.
+    pub fn collect(&mut self, store: &mut [Term<P, W>], k: usize) -> Result<usize, Refusal>
+        ensures { Collected P.Performance W.Weight (records self.old) store.old k result (records self.new) store.new }
+    {
+        Refusal::ShortStore.unless(store.len() >= STORE)?;
+        Refusal::NoNode.unless(k < self.table.count)?;
+        Refusal::NotJoined.unless(self.table.nodes[k].form.is_joined())?;
+        Refusal::StaleChild.unless(self.table.children_are_current(k))?;
+        Refusal::LongArm.unless(self.table.arms_fit(k))?;
+        let size = work_out(&self.table, store, k).ok_or(Refusal::LongResult)?;
+        self.table.collect(k, size);
+        Ok(size)
+    }
+}

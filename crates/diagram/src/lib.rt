@@ -1,0 +1,10 @@
+// Diagrams: the records of a plant's nodes, and the rows that are worked out in lent memory.
+#![tactic(auto)]
+
+pub mod diagram;
+pub mod node;
+pub mod refusal;
+pub mod table;
+#[cfg(test)]
+mod tests;
+pub mod work;
