@@ -37,7 +37,7 @@ err_is {r = Ok a} same told = absurd same
 
 -- what a refusal leaves, where nothing is written
 pub refused : {T A : Type 0} {t : Table} {s : List T} {r : Result A Refusal} {given why : Refusal} → IsErrAnd r (λ e. e ≡ given) → given ≡ why → Refused t s r t s why
-refused {r = Err e} same told = record { answer = ap Err (same ∙ told); records = refl; store = record { places = λ j h n. refl; tail = refl; as_long = refl } }
+refused {r = Err e} same told = record { answer = ap Err (same ∙ told); records = refl; store = refl }
 refused {r = Ok a} same told = absurd same
 
 -- what the answer to the questions of a node hands on

@@ -13,7 +13,7 @@ use Rattle.diagram.specs.Changes.{NodeCollected}
 use Rattle.diagram.specs.Store.{places_of, StandsAt, row_at, RowPut}
 use Rattle.diagram.specs.Results.{LastResult}
 use Rattle.diagram.specs.Working.{WorkedOut}
-use Rattle.diagram.specs.Calls.{Refused}
+use Rattle.diagram.specs.Calls.{TooLong}
 use Rattle.diagram.proofs.Asking.{err_is}
 
 width : (k : ℕ) → 64 * k + 64 - 64 * k ≡ 64
@@ -46,7 +46,7 @@ module _ {P W : Type 0} (kind : Performance.Ghosts P) (weights : Weight.Ghosts W
   abbrev Told : Result ℕ Refusal → Table → Type 0
   Told r t' =
       (answer : Option (List (Term P W))) × LastResult kind weights (form_at t k) (map (row_at t before) (children_at t k)) answer
-      × MatchOption answer (Refused t before r t' after LongResult) (λ row. (r ≡ Ok (length row)) × NodeCollected t t' k (length row) × RowPut k row before after)
+      × MatchOption answer (TooLong t before r t' after) (λ row. (r ≡ Ok (length row)) × NodeCollected t t' k (length row) × RowPut k row before after)
 
   pub too_long : {n : Option ℕ} {r : Result ℕ Refusal} → WorkedOut kind weights t k before after n → n ≡ None → {given : Refusal} → IsErrAnd r (λ e. e ≡ given) → TheErr given ≡ ok_or n LongResult → Told r t
   too_long (None, last, m) is_none is_err told = (None, last, record { answer = err_is is_err (err_same (told ∙ ap (λ o. ok_or o LongResult) is_none)); records = refl; store = m.1 })

@@ -45,12 +45,12 @@ but_at n x f = ap (λ b. cond b x (f n)) (eq-eqb n n refl)
 pub but_else : {S : Type 0} (n : ℕ) (x : S) (f : ℕ → S) (m : ℕ) → m ≢ n → but n x f m ≡ f m
 but_else n x f m apart = ap (λ b. cond b x (f m)) (ne_eqb n m (λ e. apart (sym e)))
 
--- the first 3,200 terms have the places of every node
-pub same_places : {T : Type 0} (s u : List T) → take 3200 u ≡ take 3200 s → (j : ℕ) → j < 48 → places_of j u ≡ places_of j s
+-- the first 3,072 terms are the places of the nodes
+pub same_places : {T : Type 0} (s u : List T) → take 3072 u ≡ take 3072 s → (j : ℕ) → j < 48 → places_of j u ≡ places_of j s
 same_places s u e j h = cut u ∙ ap (λ z. drop (64 * j) (take (64 * j + 64) z)) e ∙ sym (cut s)
   where
-    cut : {T : Type 0} (x : List T) → places_of j x ≡ drop (64 * j) (take (64 * j + 64) (take 3200 x))
-    cut x = between_is x (64 * j) (64 * j + 64) ∙ ap (drop (64 * j)) (sym (take-take (64 * j + 64) 3200 x (omega (arith, h))))
+    cut : {T : Type 0} (x : List T) → places_of j x ≡ drop (64 * j) (take (64 * j + 64) (take 3072 x))
+    cut x = between_is x (64 * j) (64 * j + 64) ∙ ap (drop (64 * j)) (sym (take-take (64 * j + 64) 3072 x (omega (arith, h))))
 
 module _ {P W : Type 0} {kind : Performance.Ghosts P} {weights : Weight.Ghosts W} {n : ℕ} {making : ℕ → Option (Making P W)} {drawing : ℕ → Drawing} {states : ℕ → List (Term P W)} {since : ℕ → Type 0} {t : Table} (sound : Sound t) where
   -- nothing but places of no node is written

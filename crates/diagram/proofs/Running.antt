@@ -15,7 +15,7 @@ use Rattle.diagram.proofs.Children.{five}
 use Rattle.diagram.specs.declared.table.Table.{Table}
 use Rattle.diagram.specs.Records.{size_at}
 use Rattle.diagram.specs.Store.{places_of, row_at}
-use Rattle.diagram.specs.Results.{Result, RunsOn, LastResult}
+use Rattle.diagram.specs.Results.{OneResult, RunsOn, LastResult}
 use Rattle.diagram.specs.Working.{Stands}
 
 -- the row of a node has at most 64 terms
@@ -28,7 +28,7 @@ take_copied xs ys zs n fits is = take_at xs ys n (ap length is ∙ length-take-l
 
 module _ {P W : Type 0} (kind : Performance.Ghosts P) (weights : Weight.Ghosts W) (combined room : List (Term P W)) (long : length room ≡ 64) where
   -- a result from which nothing goes on
-  pub stands_alone : (r : Option ℕ) → Merges kind weights combined room r → Stands (λ answer. Result kind weights combined (λ row. answer ≡ Some row) answer) room r
+  pub stands_alone : (r : Option ℕ) → Merges kind weights combined room r → Stands (λ answer. OneResult kind weights combined (λ row. answer ≡ Some row) answer) room r
   stands_alone None m = (None, (m.0, m.1, inr (omega (arith, m.2), refl)), refl)
   stands_alone (Some n) m =
       let e = length-take-le n room m.0 in

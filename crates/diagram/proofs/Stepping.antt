@@ -23,7 +23,7 @@ use Rattle.diagram.specs.Records.{Sound, form_at, status_at, size_at, children_a
 use Rattle.diagram.specs.Changes.{PartAdded, NodeJoined, PartRestated, NodeCollected}
 use Rattle.diagram.specs.Store.{places_of, row_at, RowPut}
 use Rattle.diagram.specs.Results.{LastResult}
-use Rattle.diagram.specs.Calls.{Asks, Free, Refused, Added, Joins, Restated, Collected}
+use Rattle.diagram.specs.Calls.{Asks, Free, Refused, TooLong, Added, Joins, Restated, Collected}
 use Rattle.diagram.specs.Histories.{Call, adding, joining, bridging, restating, collecting, asking, Question, IsPart, Answer, number, Reply, Entry, History, Making, joined_from, bridged_from, making_by, restating_by, collecting_by, makes, restates, collects, drawn_by, made, making_of, Unused, drawing_of, states_of, CollectedSince, noted_making, noted_drawing, noted_states, changed_states, with_one}
 use Rattle.diagram.specs.RightAnswers.{RightAnswer, RowOfNode, ResultsShort}
 use Rattle.diagram.specs.RightAnswers as RA
@@ -128,7 +128,12 @@ module _ {P W : Type 0} (kind : Performance.Ghosts P) (weights : Weight.Ghosts W
         (reply ≡ Err why) × After h call lent reply t' s'
     refused_after call reply r to why x e =
         let is = e ∙ ap (told to) x.answer in
-        (is, subst (λ z. After h call lent z t' s') (sym is) (idle_after call (Err why) (refused_idle call lent why) x.records (λ j l. x.store.places j l (λ f. f))))
+        (is, subst (λ z. After h call lent z t' s') (sym is) (idle_after call (Err why) (refused_idle call lent why) x.records (λ j l. ap (places_of j) x.store)))
+
+    too_long_after : (k : ℕ) (reply : Reply P W) (r : Result ℕ Refusal) → TooLong t s r t' s' → reply ≡ told number r → (reply ≡ Err LongResult) × After h (collecting k) lent reply t' s'
+    too_long_after k reply r x e =
+        let is = e ∙ ap (told number) x.answer in
+        (is, subst (λ z. After h (collecting k) lent z t' s') (sym is) (idle_after (collecting k) (Err LongResult) (refused_idle (collecting k) lent LongResult) x.records (λ j l. x.store.places j l (λ f. f))))
 
     -- one more node: what is collected since is what was
     as_before : (e : Entry P W) → collects e ≡ None → restates e ≡ None → ((k : ℕ) → k < t.count → drawing_of (e ∷ h) k ≡ drawing_of h k) → (k : ℕ) → CollectedSince (e ∷ h) k ↔ CollectedSince h k
@@ -299,10 +304,10 @@ module _ {P W : Type 0} (kind : Performance.Ghosts P) (weights : Weight.Ghosts W
 
         worked : k < t.count → form_at t k ≢ Part → All (λ c. status_at t c ≡ UpToDate) (children_at t k) → (answer : Option (List (Term P W))) →
             LastResult kind weights (form_at t k) (map (row_at t s) (children_at t k)) answer →
-            MatchOption answer (Refused t s r t' s' LongResult) (λ row. (r ≡ Ok (length row)) × NodeCollected t t' k (length row) × RowPut k row s s') →
+            MatchOption answer (TooLong t s r t' s') (λ row. (r ≡ Ok (length row)) × NodeCollected t t' k (length row) × RowPut k row s s') →
             Asked Short (reply ≡ Err LongResult) ((row : List (Term P W)) × RowOfNode kind weights h k row × (reply ≡ Ok (number (length row)))) × After h (collecting k) lent reply t' s'
         worked low joined current None last x =
-            let y = refused_after (collecting k) reply r number LongResult x e in
+            let y = too_long_after k reply r x e in
             let long = last_long laws weigh (states_of h) (drawing_of h) (row_at t s) (form_at t k) k (children_at t k) (rows low current) (once low) last in
             (inr ((λ short. let b = short long.0 (subst (λ z. RunningResult kind weights (states_of h) z long.0) (sym (ends low)) long.1) in absurd (omega (arith, b, long.2))), y.0), y.1)
           where

@@ -12,24 +12,29 @@ use Rattle.diagram.specs.declared.node.Form.TheVariants.{Part, Bridge}
 use Rattle.diagram.specs.declared.node.Status.TheVariants.{UpToDate}
 use Rattle.diagram.specs.declared.table.Table.{Table}
 use Rattle.diagram.specs.Refusals.{Asked}
-use Rattle.diagram.specs.Nodes.{Takes}
+use Rattle.diagram.specs.Nodes.{Takes, EnoughStates}
 use Rattle.diagram.specs.Records.{form_at, status_at, size_at, Uses, children_at}
 use Rattle.diagram.specs.Changes.{PartAdded, NodeJoined, PartRestated, NodeCollected}
 use Rattle.diagram.specs.Store.{row_at, Kept, no_node, RowPut}
 use Rattle.diagram.specs.Results.{LastResult}
-use Rattle.diagram.specs.RightAnswers.{EnoughStates}
 
 -- no node uses k
 abbrev pub Free : Table → ℕ → Type 0
 Free t k = (u : ℕ) → ¬ Uses t k u
 
--- a node of this form takes rows of at most 24 terms, if it is a bridge
+-- if k is a bridge, the row of each arm has at most 24 terms
 abbrev pub ArmsFit : Table → ℕ → Type 0
 ArmsFit t k = form_at t k ≡ Bridge → All (λ c. size_at t c ≤ 24) (children_at t k)
 
--- a refusal changes no record, no state and no row
+-- a call that a question refuses changes nothing
 pub record Refused {T A : Type 0} (t : Table) (s : List T) (r : Result A Refusal) (t' : Table) (s' : List T) (why : Refusal) : Type 0 where
   pub answer : r ≡ Err why
+  pub records : t' ≡ t
+  pub store : s' ≡ s
+
+-- that a running result is too long is found out in the working rows, and nothing else changes
+pub record TooLong {T A : Type 0} (t : Table) (s : List T) (r : Result A Refusal) (t' : Table) (s' : List T) : Type 0 where
+  pub answer : r ≡ Err LongResult
   pub records : t' ≡ t
   pub store : Kept no_node s s'
 
@@ -45,6 +50,7 @@ module _ {P W : Type 0} (kind : Performance.Ghosts P) (weights : Weight.Ghosts W
     abbrev Roomy : Type 0
     Roomy = 3200 ≤ length s
 
+    -- the row of the states is put at the next number
     abbrev pub Added : Terms → Result ℕ Refusal → Table → Terms → Type 0
     Added states r t' s' =
         Asked Roomy (Refused t s r t' s' ShortStore)
@@ -52,6 +58,7 @@ module _ {P W : Type 0} (kind : Performance.Ghosts P) (weights : Weight.Ghosts W
         (Asked (EnoughStates (length states)) (Refused t s r t' s' WrongStates)
         ((r ≡ Ok t.count) × ((row : Terms) × RowOf kind weights states row × PartAdded t t' (length row) × RowPut t.count row s s'))))
 
+    -- the node stands beside its children; of a bridge the third question is always answered yes, since there are five arms
     abbrev pub Joins : Form → List ℕ → Result ℕ Refusal → Table → Type 0
     Joins form named r t' =
         Asked Roomy (Refused t s r t' s ShortStore)
@@ -62,6 +69,7 @@ module _ {P W : Type 0} (kind : Performance.Ghosts P) (weights : Weight.Ghosts W
         (Asked (AllPairs ◌≢◌ named) (Refused t s r t' s Repeated)
         ((r ≡ Ok t.count) × NodeJoined t t' form named))))))
 
+    -- the row of the new states is put at k
     abbrev pub Restated : ℕ → Terms → Result ℕ Refusal → Table → Terms → Type 0
     Restated k states r t' s' =
         Asked Roomy (Refused t s r t' s' ShortStore)
@@ -70,6 +78,7 @@ module _ {P W : Type 0} (kind : Performance.Ghosts P) (weights : Weight.Ghosts W
         (Asked (EnoughStates (length states)) (Refused t s r t' s' WrongStates)
         ((row : Terms) × RowOf kind weights states row × (r ≡ Ok (length row)) × PartRestated t t' k (length row) × RowPut k row s s'))))
 
+    -- the last running result of the children's rows is put at k, or there is none
     abbrev pub Collected : ℕ → Result ℕ Refusal → Table → Terms → Type 0
     Collected k r t' s' =
         Asked Roomy (Refused t s r t' s' ShortStore)
@@ -78,7 +87,7 @@ module _ {P W : Type 0} (kind : Performance.Ghosts P) (weights : Weight.Ghosts W
         (Asked (All (λ c. status_at t c ≡ UpToDate) (children_at t k)) (Refused t s r t' s' StaleChild)
         (Asked (ArmsFit t k) (Refused t s r t' s' LongArm)
         ((answer : Option Terms) × LastResult kind weights (form_at t k) (map (row_at t s) (children_at t k)) answer
-        × MatchOption answer (Refused t s r t' s' LongResult) (λ row. (r ≡ Ok (length row)) × NodeCollected t t' k (length row) × RowPut k row s s'))))))
+        × MatchOption answer (TooLong t s r t' s') (λ row. (r ≡ Ok (length row)) × NodeCollected t t' k (length row) × RowPut k row s s'))))))
 
     -- a question about node k: the records and the store are only read
     abbrev pub Asks : {A : Type 0} → ℕ → Result A Refusal → Type 0 → Type 0
@@ -87,6 +96,7 @@ module _ {P W : Type 0} (kind : Performance.Ghosts P) (weights : Weight.Ghosts W
         (Asked (k < t.count) (r ≡ Err NoNode)
         (Asked (status_at t k ≡ UpToDate) (r ≡ Err Stale) told))
 
+    -- what k tells when it is asked; its record has as many terms as its row
     abbrev pub TellsSize : ℕ → Result ℕ Refusal → Type 0
     TellsSize k r = Asks k r (r ≡ Ok (size_at t k))
 

@@ -14,6 +14,10 @@ Takes Part n = n ≡ 0
 Takes (Joined way) n = (2 ≤ n) × (n ≤ 8)
 Takes Bridge n = n ≡ 5
 
+-- a number of states that a part may have
+abbrev pub EnoughStates : ℕ → Type 0
+EnoughStates n = (1 ≤ n) × (n ≤ 64)
+
 -- a part as it is added: up to date and without a user
 abbrev pub part_of : ℕ → Node
 part_of n = record { form = Part; status = UpToDate; user = None; size = n }

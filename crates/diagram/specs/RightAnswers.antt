@@ -1,4 +1,5 @@
--- The right answer to a call, after a history: question by question, in the words of the plant.
+-- The right answer to a call, after a history: question by question, in the words of the plant. `Refusals.number_of` has the number of each
+-- refusal.
 use Rattle.std.specs.Prelude.{◌≡◌, ◌≢◌, ℕ, ◌<◌, ◌≤◌, List, [], ◌∷◌, length, slice_index_or, Some, Ok, Err, All, AllPairs}
 use Rattle.kinds.specs.declared.performance.Performance
 use Rattle.kinds.specs.declared.weight.Weight
@@ -9,11 +10,8 @@ use Rattle.terms.specs.Enumeration.{enumeration}
 use Rattle.terms.specs.Steps.{RunningResult}
 use Rattle.diagram.specs.declared.refusal.Refusal.TheVariants.{ShortStore, NoNumberLeft, WrongStates, WrongChildren, NoNode, InUse, Repeated, NotPart, NotJoined, StaleChild, LongArm, LongResult, Stale, NoTerm}
 use Rattle.diagram.specs.Refusals.{Asked}
+use Rattle.diagram.specs.Nodes.{EnoughStates}
 use Rattle.diagram.specs.Histories.{Question, size, term, total, availability, Call, adding, joining, bridging, restating, collecting, asking, number, one_term, one_weight, two_weights, Reply, Entry, History, bridged_from, made, making_of, drawing_of, states_of, children_of, IsPart, Unused, Answers}
-
--- a number of states that a part may have
-abbrev pub EnoughStates : ℕ → Type 0
-EnoughStates n = (1 ≤ n) × (n ≤ 64)
 
 module _ {P W : Type 0} (kind : Performance.Ghosts P) (weights : Weight.Ghosts W) where
   abbrev Terms : Type 0
@@ -40,6 +38,7 @@ module _ {P W : Type 0} (kind : Performance.Ghosts P) (weights : Weight.Ghosts W
     ResultsShort k = (row : Terms) → RunningResult kind weights (states_of h) (drawing_of h k) row → length row ≤ 64
 
     module _ (r : Reply P W) where
+      -- the questions about the children that a joining names, and its answer
       abbrev naming : List ℕ → Type 0
       naming children =
           Asked (All (λ c. c < made h) children) (r ≡ Err NoNode)

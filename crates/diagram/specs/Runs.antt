@@ -41,12 +41,12 @@ module _ {P W : Type 0} (kind : Performance.Ghosts P) (weights : Weight.Ghosts W
   Performs (asking k question) t s reply t' s' = Replies t s k question reply × (t' ≡ t) × (s' ≡ s)
 
   -- Any run of calls after the making, newest first, and the diagram and store that it leaves. Each call that is lent 3,200 terms or more finds
-  -- the first 3,200 as the calls before left them; one that is lent fewer finds the diagram so, and leaves the store alone.
+  -- the places of the nodes as the calls before left them; one that is lent fewer finds the diagram so.
   pub data Run : History P W → Diagram P W → Terms → Type 0 where
     start : {d : Diagram P W} {s : Terms} → Made records s (Ok d) → Run [] d s
     next :
         {h : History P W} {d d' : Diagram P W} {s : Terms} (call : Call P W) (lent left : Terms) (reply : Reply P W) →
-        Run h d s → 3200 ≤ length lent → take 3200 lent ≡ take 3200 s → Performs call (records d) lent reply (records d') left →
+        Run h d s → 3200 ≤ length lent → take 3072 lent ≡ take 3072 s → Performs call (records d) lent reply (records d') left →
         Run (record { call = call; lent = length lent; reply = reply } ∷ h) d' left
     lent_too_few :
         {h : History P W} {d d' : Diagram P W} {s : Terms} (call : Call P W) (lent left : Terms) (reply : Reply P W) →

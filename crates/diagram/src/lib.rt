@@ -7,4 +7,5 @@ pub mod refusal;
 pub mod table;
 #[cfg(test)]
 mod tests;
+pub mod theorems;
 pub mod work;

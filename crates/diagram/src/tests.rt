@@ -1,7 +1,9 @@
 // Plants of flows and parts, run: each test is a table of calls, and of what they answer.
 use crate::diagram::Diagram;
 use crate::refusal::Refusal;
-use crate::tests::Call::{Add, Bridge, Collect, Join, Join3, Met, Rate, Restate, Size, Total};
+use crate::tests::Call::{
+    Add, All, Bridge, Collect, Join, Join3, Join8, Met, Rate, Restate, Size, Total,
+};
 use kinds::values::{Flow, Parts};
 use std::process::Abort;
 use terms::term::Way::{Parallel, Series};
@@ -64,6 +66,7 @@ enum Call {
     Add(States),
     Join(Way, [usize; 2]),
     Join3(Way, [usize; 3]),
+    Join8(Way, [usize; 8]),
     Bridge([usize; 5]),
     Restate(usize, States),
     Collect(usize),
@@ -71,14 +74,16 @@ enum Call {
     Rate(usize, usize),
     Total(usize),
     Met(usize, u32),
+    All(usize, u32),
 }
 
-// The number that a call answers: of a term its flow, of an availability what meets the need.
+// The number that a call answers: of a term its flow, of an availability what meets the need, or all.
 fn number_of(plant: &mut Plant, store: &mut [State], call: Call) -> Result<usize, Refusal> {
     match call {
         Add(states) => plant.add(store, &states.all()[0..states.number.min(65)]),
         Join(way, children) => plant.join(store, way, &children),
         Join3(way, children) => plant.join(store, way, &children),
+        Join8(way, children) => plant.join(store, way, &children),
         Bridge(arms) => plant.join_bridge(store, arms),
         Restate(k, states) => plant.restate(store, k, &states.all()[0..states.number.min(65)]),
         Collect(k) => plant.collect(store, k),
@@ -86,6 +91,7 @@ fn number_of(plant: &mut Plant, store: &mut [State], call: Call) -> Result<usize
         Rate(k, i) => Ok(plant.term(store, k, i)?.performance.number() as usize),
         Total(k) => Ok(plant.total(store, k)?.number() as usize),
         Met(k, need) => Ok(plant.availability(store, k, Flow::new(need))?.0.number() as usize),
+        All(k, need) => Ok(plant.availability(store, k, Flow::new(need))?.1.number() as usize),
     }
 }
 
@@ -137,6 +143,7 @@ fn a_store_of_3200_terms_will_do(rt: HostRuntime) {
         (Rate(2, 2), Ok(6)),
         (Total(2), Ok(6)),
         (Met(2, 4), Ok(4)),
+        (All(2, 4), Ok(6)),
         (Bridge([0, 1, 2, 3, 4]), Err(5)),
     ];
     let mut plant = begin(&rt, &mut store, &[]);
@@ -351,6 +358,43 @@ fn arms_have_24_terms_at_most(rt: HostRuntime) {
             ],
         );
     }
+}
+
+// Eight children at once; and a stale child is told before a long arm.
+#[test]
+fn eight_children_and_a_bridge_with_a_stale_one(rt: HostRuntime) {
+    let mut store = store();
+    begin(
+        &rt,
+        &mut store,
+        &[
+            (Add(steps(25, 1)), Ok(0)),
+            (Add(steps(9, 8)), Ok(1)),
+            (Add(steps(8, 1)), Ok(2)),
+            (Add(sure(1, 2)), Ok(3)),
+            (Add(sure(1, 1)), Ok(4)),
+            (Add(sure(1, 1)), Ok(5)),
+            (Add(sure(1, 1)), Ok(6)),
+            (Add(sure(1, 1)), Ok(7)),
+            (Join(Parallel, [6, 7]), Ok(8)),
+            (Bridge([0, 1, 2, 5, 8]), Ok(9)),
+            (Collect(9), Err(10)),
+            (Collect(8), Ok(1)),
+            (Collect(9), Err(11)),
+            (Restate(0, sure(4294967295, 1)), Ok(1)),
+            (Collect(9), Ok(3)),
+            (Add(sure(1, 1)), Ok(10)),
+            (Add(sure(2, 3)), Ok(11)),
+            (Add(sure(3, 1)), Ok(12)),
+            (Add(sure(4, 1)), Ok(13)),
+            (Add(sure(5, 1)), Ok(14)),
+            (Add(sure(6, 1)), Ok(15)),
+            (Join8(Parallel, [3, 4, 10, 11, 12, 13, 14, 15]), Ok(16)),
+            (Collect(16), Ok(1)),
+            (Rate(16, 0), Ok(23)),
+            (Total(16), Ok(6)),
+        ],
+    );
 }
 
 // The flows 6, 4, 3, 9, 2 pass 10 over a bridge, and less where two arms are exchanged.

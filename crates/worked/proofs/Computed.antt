@@ -16,7 +16,8 @@ use Rattle.terms.specs.Drawings.{part, joined, one, more}
 use Rattle.terms.specs.Readings.{reading, ReadSame}
 use Rattle.terms.proofs.Equivalence.{equal_distributions, same_itself, same_trans}
 use Rattle.terms.proofs.Redrawing.{in_any_order, replaced}
-use Rattle.worked.specs.Examples.{HasRow, states, drawn, redrawn}
+use Rattle.worked.specs.Examples.{HasRow, states}
+use Rattle.worked.specs.Plants.{drawn, redrawn}
 
 -- the lists show the same numbers
 abbrev pub Alike : List (Term Flow Parts) → List (Term Flow Parts) → Type 0

@@ -1,2 +1,6 @@
 pub mod Computed
+pub mod Drawing
+pub mod Needs
+pub mod Rows
 pub mod Texts
+pub mod Joining

@@ -23,6 +23,7 @@ use Rattle.terms.specs.declared.term.Way.TheVariants.{Series, Parallel}
 use Rattle.terms.specs.Drawings.{Drawing, part, joined, bridge, one, more}
 use Rattle.terms.specs.Enumeration.{but, performance_of, enumeration}
 use Rattle.terms.specs.Readings.{ReadSame}
+use Rattle.worked.specs.Plants.{drawn, redrawn}
 
 -- the value of a number; no number below is past the top
 abbrev pub flow : ℕ → Flow
@@ -55,13 +56,13 @@ rate at count = record { performance = flow rate; weight = parts count }
 abbrev pub HasRow : List (Term Flow Parts) → List (Term Flow Parts) → Type 0
 HasRow = RowOf flow_kind.ghosts parts_weight.ghosts
 
-abbrev pump_a : List (Term Flow Parts)
+abbrev pub pump_a : List (Term Flow Parts)
 pump_a = 0 at 1 ∷ 3 at 9 ∷ []
 
-abbrev pump_b : List (Term Flow Parts)
+abbrev pub pump_b : List (Term Flow Parts)
 pump_b = 0 at 2 ∷ 2 at 8 ∷ []
 
-abbrev pipe : List (Term Flow Parts)
+abbrev pub pipe : List (Term Flow Parts)
 pipe = 4 at 7 ∷ 0 at 3 ∷ []
 
 abbrev pumps : List (Term Flow Parts)
@@ -70,16 +71,9 @@ pumps = 0 at 2 ∷ 2 at 8 ∷ 3 at 18 ∷ 5 at 72 ∷ []
 abbrev plant : List (Term Flow Parts)
 plant = 0 at 314 ∷ 2 at 56 ∷ 3 at 126 ∷ 4 at 504 ∷ []
 
--- the plant as a drawing: parts 0 and 1 are the pumps, part 2 is the pipe
+-- parts 0 and 1 are the pumps, part 2 is the pipe
 abbrev pub states : ℕ → List (Term Flow Parts)
 states = but 0 pump_a (but 1 pump_b (λ _. pipe))
-
-abbrev pub drawn : Drawing
-drawn = joined Series (more (one (joined Parallel (more (one (part 0)) (part 1)))) (part 2))
-
--- drawn the other way round: the pipe first, then the pumps, exchanged
-abbrev pub redrawn : Drawing
-redrawn = joined Series (more (one (part 2)) (joined Parallel (more (one (part 1)) (part 0))))
 
 -- pump A at both places
 abbrev twice : Drawing

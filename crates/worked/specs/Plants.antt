@@ -1,30 +1,43 @@
--- What is worked out for a plant whose weights are parts.
-use Rattle.std.specs.Prelude.{ℕ, ◌⊎◌, List, take, Option, Some, None}
+-- The plant as drawings, and what is worked out for it.
+use Rattle.std.specs.Prelude.{ℕ, List, Ok}
 use Rattle.kinds.specs.Named.{Parts}
 use Rattle.kinds.specs.declared.performance.Performance
 use Rattle.kinds.specs.contracts.parts.PartsWeight.TheImpl as parts_weight
 use Rattle.terms.specs.declared.term.Term.{Term}
-use Rattle.terms.specs.declared.term.Way.{Way}
 use Rattle.terms.specs.declared.term.Way.TheVariants.{Series, Parallel}
-use Rattle.terms.specs.Merging.{Merges}
-use Rattle.terms.specs.Combinations.{joins, combinations}
+use Rattle.terms.specs.Rows.{RowOf}
+use Rattle.terms.specs.Drawings.{Drawing, part, joined, one, more}
+use Rattle.terms.specs.Enumeration.{but, enumeration}
+use Rattle.diagram.specs.declared.table.Table.{Table}
+use Rattle.diagram.specs.Calls.{Collected}
+use Rattle.worked.specs.declared.plant.Nodes.{Nodes}
+use Rattle.worked.specs.declared.plant.Plant.{Plant}
 
-module _ {P : Type 0} (kind : Performance.Ghosts P) (way : Way) (xs ys room : List (Term P Parts)) where
-  abbrev Answers : Option ℕ → Type 0
-  Answers = Merges kind parts_weight.ghosts (combinations parts_weight.ghosts (joins kind way) xs ys) room
+-- parts 0 and 1 are the pumps, part 2 is the pipe
+abbrev pub states : {P : Type 0} → Plant P → ℕ → List (Term P Parts)
+states p = but 0 p.pump_a (but 1 p.pump_b (λ _. p.pipe))
 
-  -- the row of two lists of states, joined, stands in the first n places of a room
-  abbrev pub JoinedIn : ℕ → Type 0
-  JoinedIn n = Answers (Some n)
+abbrev pub pumps_drawn : Drawing
+pumps_drawn = joined Parallel (more (one (part 0)) (part 1))
 
-  -- it is longer than the room
-  abbrev pub TooLong : Type 0
-  TooLong = Answers None
+abbrev pub drawn : Drawing
+drawn = joined Series (more (one pumps_drawn) (part 2))
 
--- two pumps in parallel, then a pipe in series: the rooms of the pumps and of the plant hold their rows, or one is too short
-module _ {P : Type 0} (kind : Performance.Ghosts P) (pump_a pump_b pipe pumps plant : List (Term P Parts)) where
-  abbrev pub BothRows : ℕ × ℕ → Type 0
-  BothRows lens = JoinedIn kind Parallel pump_a pump_b pumps lens.0 × JoinedIn kind Series (take lens.0 pumps) pipe plant lens.1
+-- drawn the other way round: the pipe first, then the pumps, exchanged
+abbrev pub redrawn : Drawing
+redrawn = joined Series (more (one (part 2)) (joined Parallel (more (one (part 1)) (part 0))))
 
-  abbrev pub NoRoom : Type 0
-  NoRoom = TooLong kind Parallel pump_a pump_b pumps ⊎ ((n : ℕ) × JoinedIn kind Parallel pump_a pump_b pumps n × TooLong kind Series (take n pumps) pipe plant)
+-- the nodes in the order in which they are made
+abbrev pub in_order : Nodes
+in_order = record { pump_a = 0; pump_b = 1; pipe = 2; pumps = 3; plant = 4 }
+
+module _ {P : Type 0} (kind : Performance.Ghosts P) where
+  -- this is the row of all the combinations of the plant's parts, so drawn
+  abbrev pub RowOfDrawing : Plant P → Drawing → List (Term P Parts) → Type 0
+  RowOfDrawing p d = RowOf kind parts_weight.ghosts (enumeration kind parts_weight.ghosts (states p) d)
+
+  -- two nodes are collected, one after the other
+  abbrev pub BothCollected : Table → List (Term P Parts) → ℕ → ℕ → Table → List (Term P Parts) → Type 0
+  BothCollected t s first second t' s' =
+      (between : Table) × (left : List (Term P Parts)) × (m : ℕ) × (n : ℕ) ×
+      Collected kind parts_weight.ghosts t s first (Ok m) between left × Collected kind parts_weight.ghosts between left second (Ok n) t' s'

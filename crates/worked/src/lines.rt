@@ -1,13 +1,16 @@
 // The lines that the program prints.
-ghost use Rattle.std.specs.Prelude.{◌≡◌, ◌++◌, Some};
+ghost use Rattle.std.specs.Prelude.{◌≡◌, ◌++◌, Some, IfOk};
+ghost use Rattle.diagram.specs.Shown.{records};
+ghost use Rattle.diagram.specs.Store.{row_at};
 ghost use Rattle.terms.specs.Sums.{met_of, total_of};
 ghost use Rattle.worked.specs.Lines.{row_text, need_text, demand_text};
 
+use diagram::diagram::Diagram;
+use diagram::refusal::Refusal;
 use kinds::performance::Performance;
 use kinds::values::{Flow, Parts};
 use kinds::weight::Weight;
 use std::fmt;
-use terms::sums::availability;
 use terms::term::Term;
 
 // A row after its name.
@@ -38,8 +41,8 @@ impl fmt::Display for Line<'_> {
     }
 }
 
-// What of a row meets a demand.
-#[derive(Clone, Copy)]
+// What of a node's row meets a demand.
+#[derive(Clone, Copy, PartialEq, Eq)]
 pub struct Need {
     demand: Flow,
     met: Parts,
@@ -47,14 +50,20 @@ pub struct Need {
 }
 
 impl Need {
-    pub fn of(demand: Flow, row: &[Term<Flow, Parts>]) -> Need
-        ensures text { need_text result.demand result.met result.all ≡ demand_text demand row.now }
-        ensures demand { result.demand ≡ demand }
-        ensures met { result.met ≡ met_of ⟦<Flow as Performance>⟧ ⟦<Parts as Weight>⟧ demand row.now }
-        ensures all { result.all ≡ total_of ⟦<Parts as Weight>⟧ row.now }
+    // As node k of the diagram answers it.
+    pub fn of(
+        demand: Flow,
+        diagram: &Diagram<Flow, Parts>,
+        store: &[Term<Flow, Parts>],
+        k: usize,
+    ) -> Result<Need, Refusal>
+        ensures demand { IfOk result (λ n. n.demand ≡ demand) }
+        ensures met { IfOk result (λ n. n.met ≡ met_of ⟦<Flow as Performance>⟧ ⟦<Parts as Weight>⟧ demand (row_at (records diagram.now) store.now k)) }
+        ensures all { IfOk result (λ n. n.all ≡ total_of ⟦<Parts as Weight>⟧ (row_at (records diagram.now) store.now k)) }
+        ensures text { IfOk result (λ n. need_text n.demand n.met n.all ≡ demand_text demand (row_at (records diagram.now) store.now k)) }
     {
-        let (met, all) = availability(row, demand);
-        Need { demand, met, all }
+        let (met, all) = diagram.availability(store, k, demand)?;
+        Ok(Need { demand, met, all })
     }
 }
 

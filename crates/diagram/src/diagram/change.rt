@@ -3,7 +3,7 @@ ghost use Rattle.std.specs.Prelude.{◌≢◌, ◌↔◌, IsTrue};
 ghost use Rattle.diagram.specs.declared.node.Form.TheVariants.{Part, Joined, Bridge};
 ghost use Rattle.diagram.specs.Shown.{records};
 ghost use Rattle.diagram.specs.Calls.{Added, Joins, Restated};
-ghost use Rattle.diagram.specs.RightAnswers.{EnoughStates};
+ghost use Rattle.diagram.specs.Nodes.{EnoughStates};
 
 use super::{Diagram, STORE};
 use crate::node::Form;
@@ -90,5 +90,5 @@ impl<P: Performance, W: Weight> Diagram<P, W> {
 fn may_be_states(n: usize) -> bool
     ensures { IsTrue result ↔ EnoughStates n }
 {
-    1 <= n && n <= 64
+    (1..=64).contains(&n)
 }

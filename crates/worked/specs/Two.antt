@@ -1,0 +1,31 @@
+-- What two parts, joined, answer.
+use Rattle.std.specs.Prelude.{◌≡◌, ℕ, ◌≤◌, List, length, Result, Ok, Err}
+use Rattle.kinds.specs.declared.performance.Performance
+use Rattle.kinds.specs.declared.weight.Weight
+use Rattle.terms.specs.declared.term.Term.{Term}
+use Rattle.terms.specs.declared.term.Way.{Way}
+use Rattle.terms.specs.Rows.{RowOf}
+use Rattle.terms.specs.Sums.{total_of, met_of}
+use Rattle.terms.specs.Combinations.{joins, combinations}
+use Rattle.diagram.specs.declared.refusal.Refusal.{Refusal}
+use Rattle.diagram.specs.declared.refusal.Refusal.TheVariants.{ShortStore, WrongStates, LongResult}
+use Rattle.diagram.specs.Refusals.{Asked}
+use Rattle.diagram.specs.Nodes.{EnoughStates}
+
+module _ {P W : Type 0} (kind : Performance.Ghosts P) (weights : Weight.Ghosts W) (way : Way) (xs ys : List (Term P W)) where
+  -- all the combinations of a state of the one part and a state of the other
+  abbrev both : List (Term P W)
+  both = combinations weights (joins kind way) xs ys
+
+  -- their row is no longer than a row may be
+  abbrev pub ShortRow : Type 0
+  ShortRow = (row : List (Term P W)) → RowOf kind weights both row → length row ≤ 64
+
+  -- r is what of two parts with these states meets the demand, and the weight of everything; or the first question with a no is told
+  abbrev pub OfTwo : P → ℕ → Result (W × W) Refusal → Type 0
+  OfTwo demand lent r =
+      Asked (3200 ≤ lent) (r ≡ Err ShortStore)
+      (Asked (EnoughStates (length xs)) (r ≡ Err WrongStates)
+      (Asked (EnoughStates (length ys)) (r ≡ Err WrongStates)
+      (Asked ShortRow (r ≡ Err LongResult)
+      (r ≡ Ok (met_of kind weights demand both, total_of weights both)))))
