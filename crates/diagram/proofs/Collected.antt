@@ -1,5 +1,5 @@
 -- What a collecting answers, from what was worked out.
-use Rattle.std.proofs.Common.{◌≡◌, ℕ, ◌≤◌, List, map, length, take, drop, Option, Some, None, MatchOption, Result, Ok, Err, IsErrAnd, sym, ◌∙◌, ap, refl, subst, arith, is_some, unwrap_or, ok_or, ◌*◌, ◌+◌, ◌-◌}
+use Rattle.std.proofs.Common.{◌≡◌, ℕ, ◌≤◌, List, map, length, take, drop, Option, Some, None, Result, Ok, Err, IsErrAnd, sym, ◌∙◌, ap, refl, subst, arith, All, inl, inr, is_some, unwrap_or, ok_or, ◌*◌, ◌+◌, ◌-◌}
 use Rattle.std.proofs.lemmas.Bool.{true≢false}
 use Rattle.std.proofs.lemmas.List.{length-take}
 use Rattle.kinds.specs.declared.performance.Performance
@@ -11,9 +11,12 @@ use Rattle.diagram.specs.declared.table.Table.{Table}
 use Rattle.diagram.specs.Records.{form_at, children_at}
 use Rattle.diagram.specs.Changes.{NodeCollected}
 use Rattle.diagram.specs.Store.{places_of, StandsAt, row_at, RowPut}
-use Rattle.diagram.specs.Results.{LastResult}
+use Rattle.diagram.specs.Results.{RunningResults}
 use Rattle.diagram.specs.Working.{WorkedOut}
 use Rattle.diagram.specs.Calls.{TooLong}
+use Rattle.diagram.specs.Refusals.{Asked}
+use Rattle.diagram.proofs.Resulted.{results_of}
+use Rattle.kinds.proofs.Lawful.{Kind, Weighing}
 use Rattle.diagram.proofs.Asking.{err_is}
 
 width : (k : ℕ) → 64 * k + 64 - 64 * k ≡ 64
@@ -42,14 +45,16 @@ err_same {e} p = ap (err_of e) p
 pub some_same : {a b : ℕ} → Some a ≡ Some b → a ≡ b
 some_same {a} e = ap (λ o. unwrap_or o a) e
 
-module _ {P W : Type 0} (kind : Performance.Ghosts P) (weights : Weight.Ghosts W) (t : Table) (k : ℕ) (before after : List (Term P W)) where
+module _ {P W : Type 0} (kind : Performance.Ghosts P) (weights : Weight.Ghosts W) (laws : Kind kind) (weigh : Weighing weights) (t : Table) (k : ℕ) (before after : List (Term P W)) where
   abbrev Told : Result ℕ Refusal → Table → Type 0
   Told r t' =
-      (answer : Option (List (Term P W))) × LastResult kind weights (form_at t k) (map (row_at t before) (children_at t k)) answer
-      × MatchOption answer (TooLong t before r t' after) (λ row. (r ≡ Ok (length row)) × NodeCollected t t' k (length row) × RowPut k row before after)
+      (results : List (List (Term P W))) × (row : List (Term P W)) × RunningResults kind weights (form_at t k) (map (row_at t before) (children_at t k)) results row
+      × Asked (All (λ result. length result ≤ 64) results) (TooLong t before r t' after) ((r ≡ Ok (length row)) × NodeCollected t t' k (length row) × RowPut k row before after)
 
   pub too_long : {n : Option ℕ} {r : Result ℕ Refusal} → WorkedOut kind weights t k before after n → n ≡ None → {given : Refusal} → IsErrAnd r (λ e. e ≡ given) → TheErr given ≡ ok_or n LongResult → Told r t
-  too_long (None, last, m) is_none is_err told = (None, last, record { answer = err_is is_err (err_same (told ∙ ap (λ o. ok_or o LongResult) is_none)); records = refl; store = m.1 })
+  too_long (None, last, m) is_none is_err told =
+      let x = results_of kind weights laws weigh (form_at t k) (map (row_at t before) (children_at t k)) None last in
+      (x.0, x.1, x.2, inr (x.3, record { answer = err_is is_err (err_same (told ∙ ap (λ o. ok_or o LongResult) is_none)); records = refl; store = m.1 }))
   too_long (Some row, last, m) is_none is_err told = absurd (none_or_some is_none m.0)
 
   pub small : {n : Option ℕ} {size : ℕ} → WorkedOut kind weights t k before after n → n ≡ Some size → size ≤ 64
@@ -59,5 +64,6 @@ module _ {P W : Type 0} (kind : Performance.Ghosts P) (weights : Weight.Ghosts W
   pub collected : {n : Option ℕ} {size : ℕ} {t' : Table} → WorkedOut kind weights t k before after n → n ≡ Some size → NodeCollected t t' k size → Told (Ok size) t'
   collected (None, last, m) there c = absurd (none_or_some m.0 there)
   collected {t' = t'} (Some row, last, m) there c =
-      let e = some_same (sym there ∙ m.0) in
-      (Some row, last, (ap Ok e, subst (NodeCollected t t' k) e c, m.1))
+      let x = results_of kind weights laws weigh (form_at t k) (map (row_at t before) (children_at t k)) (Some row) last in
+      let e = some_same (sym there ∙ m.0) ∙ ap length x.3.1 in
+      (x.0, x.1, x.2, inl (x.3.0, (ap Ok e, subst (NodeCollected t t' k) e c, subst (λ z. RowPut k z before after) x.3.1 m.1)))

@@ -10,6 +10,7 @@ pub mod Running
 pub mod Places
 pub mod Working
 pub mod Asking
+pub mod Resulted
 pub mod Collected
 pub mod Drawn
 pub mod Resulting

@@ -19,7 +19,7 @@ use Rattle.terms.proofs.Stepwise.{five_once}
 use Rattle.diagram.specs.declared.node.Form.{Form}
 use Rattle.diagram.specs.declared.node.Form.TheVariants.{Joined, Bridge}
 use Rattle.diagram.specs.Histories.{followed_by_all}
-use Rattle.diagram.specs.Results.{RunsOn, LastResult}
+use Rattle.diagram.specs.Working.{RunsOn, LastResult}
 use Rattle.diagram.proofs.Drawn.{drawn_form}
 
 -- children that others follow have no part twice where all have none

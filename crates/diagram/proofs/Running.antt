@@ -15,7 +15,7 @@ use Rattle.diagram.proofs.Children.{five}
 use Rattle.diagram.specs.declared.table.Table.{Table}
 use Rattle.diagram.specs.Records.{size_at}
 use Rattle.diagram.specs.Store.{places_of, row_at}
-use Rattle.diagram.specs.Results.{OneResult, RunsOn, LastResult}
+use Rattle.diagram.specs.Working.{OneResult, RunsOn, LastResult}
 use Rattle.diagram.specs.Working.{Stands}
 
 -- the row of a node has at most 64 terms

@@ -1,5 +1,5 @@
 -- One call more: its answer is right, and the records and the store are as the longer history has them.
-use Rattle.std.proofs.Common.{◌≡◌, ◌≢◌, ◌⊎◌, ◌↔◌, ℕ, ◌+◌, ◌<◌, ◌≤◌, List, [], ◌∷◌, length, map, All, AllPairs, Contains, Option, Some, None, MatchOption, Result, Ok, Err, sym, ◌∙◌, ap, refl, subst, inl, inr, arith}
+use Rattle.std.proofs.Common.{◌≡◌, ◌≢◌, ◌⊎◌, ◌↔◌, ℕ, ◌+◌, ◌<◌, ◌≤◌, List, [], ◌∷◌, length, map, All, AllPairs, Contains, Option, Some, None, Result, Ok, Err, sym, ◌∙◌, ap, refl, subst, inl, inr, arith}
 use Rattle.std.proofs.lemmas.Bool.{cases_lt, true≢false}
 use Rattle.std.proofs.lemmas.List.Elements.{All-contains}
 use Rattle.kinds.specs.declared.performance.Performance
@@ -22,7 +22,7 @@ use Rattle.diagram.specs.Refusals.{Asked}
 use Rattle.diagram.specs.Records.{Sound, form_at, status_at, size_at, children_at}
 use Rattle.diagram.specs.Changes.{PartAdded, NodeJoined, PartRestated, NodeCollected}
 use Rattle.diagram.specs.Store.{places_of, row_at, RowPut}
-use Rattle.diagram.specs.Results.{LastResult}
+use Rattle.diagram.specs.Results.{RunningResults}
 use Rattle.diagram.specs.Calls.{Asks, Free, Refused, TooLong, Added, Joins, Restated, Collected}
 use Rattle.diagram.specs.Histories.{Call, adding, joining, bridging, restating, collecting, asking, Question, IsPart, Answer, number, Reply, Entry, History, Making, joined_from, bridged_from, making_by, restating_by, collecting_by, makes, restates, collects, drawn_by, made, making_of, Unused, drawing_of, states_of, CollectedSince, noted_making, noted_drawing, noted_states, changed_states, with_one}
 use Rattle.diagram.specs.RightAnswers.{RightAnswer, RowOfNode, ResultsShort}
@@ -35,6 +35,7 @@ use Rattle.diagram.proofs.Holding.{Holds, Matches, holds_there, but_else}
 use Rattle.diagram.proofs.Growing.{holds_added, holds_joined}
 use Rattle.diagram.proofs.Moving.{holds_restated, holds_collected}
 use Rattle.diagram.proofs.Drawn.{drawn_form}
+use Rattle.diagram.proofs.Resulted.{last_of, none_of}
 use Rattle.diagram.proofs.Resulting.{last_row, last_short, last_long}
 use Rattle.diagram.proofs.Placed.{none_twice}
 use Rattle.diagram.proofs.Questions.{HoldsAfter, node_question, room_question, nodes_question, free_question, part_question, current_question, children_question, arms_question, child_known}
@@ -289,7 +290,7 @@ module _ {P W : Type 0} (kind : Performance.Ghosts P) (weights : Weight.Ghosts W
         (λ low a. through (not_part low) a (λ x. refused_after (collecting k) reply r number NotJoined x e)
         (λ joined a. through (children_question kind weights h t s sound holds k low) a (λ x. refused_after (collecting k) reply r number StaleChild x e)
         (λ current a. through (arms_question kind weights h t s sound holds laws weigh k low current) a (λ x. refused_after (collecting k) reply r number LongArm x e)
-        (λ q a. worked low joined current a.0 a.1 a.2))))
+        (λ q a. worked low joined current a.0 a.1 a.2 a.3))))
       where
         not_part : k < t.count → (form_at t k ≢ Part) ↔ (¬ IsPart h k)
         not_part low =
@@ -302,11 +303,12 @@ module _ {P W : Type 0} (kind : Performance.Ghosts P) (weights : Weight.Ghosts W
         ends : k < t.count → drawing_of h k ≡ drawn_form (form_at t k) k (children_at t k) (drawing_of h)
         ends low = holds.drawn k low
 
-        worked : k < t.count → form_at t k ≢ Part → All (λ c. status_at t c ≡ UpToDate) (children_at t k) → (answer : Option (List (Term P W))) →
-            LastResult kind weights (form_at t k) (map (row_at t s) (children_at t k)) answer →
-            MatchOption answer (TooLong t s r t' s') (λ row. (r ≡ Ok (length row)) × NodeCollected t t' k (length row) × RowPut k row s s') →
+        worked : k < t.count → form_at t k ≢ Part → All (λ c. status_at t c ≡ UpToDate) (children_at t k) → (results : List (List (Term P W))) (row : List (Term P W)) →
+            RunningResults kind weights (form_at t k) (map (row_at t s) (children_at t k)) results row →
+            Asked (All (λ result. length result ≤ 64) results) (TooLong t s r t' s') ((r ≡ Ok (length row)) × NodeCollected t t' k (length row) × RowPut k row s s') →
             Asked Short (reply ≡ Err LongResult) ((row : List (Term P W)) × RowOfNode kind weights h k row × (reply ≡ Ok (number (length row)))) × After h (collecting k) lent reply t' s'
-        worked low joined current None last x =
+        worked low joined current results row are (inr (n, x)) =
+            let last = none_of kind weights laws weigh (form_at t k) (map (row_at t s) (children_at t k)) results row are n in
             let y = too_long_after k reply r x e in
             let long = last_long laws weigh (states_of h) (drawing_of h) (row_at t s) (form_at t k) k (children_at t k) (rows low current) (once low) last in
             (inr ((λ short. let b = short long.0 (subst (λ z. RunningResult kind weights (states_of h) z long.0) (sym (ends low)) long.1) in absurd (omega (arith, b, long.2))), y.0), y.1)
@@ -316,7 +318,8 @@ module _ {P W : Type 0} (kind : Performance.Ghosts P) (weights : Weight.Ghosts W
 
             once : k < t.count → NoPartTwice (drawn_form (form_at t k) k (children_at t k) (drawing_of h))
             once low = subst NoPartTwice (ends low) (none_twice sound holds.drawn k low)
-        worked low joined current (Some row) last x =
+        worked low joined current results row are (inl (short, x)) =
+            let last = last_of kind weights laws weigh (form_at t k) (map (row_at t s) (children_at t k)) results row are short in
             let is = e ∙ ap (told number) x.0 in
             let now : Entry P W = entry (collecting k) lent (Ok (number (length row))) in
             let is_row = subst (λ z. RowOf kind weights (enumeration kind weights (states_of h) z) row) (sym (ends low))

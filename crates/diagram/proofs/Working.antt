@@ -8,7 +8,7 @@ use Rattle.terms.specs.declared.term.Term.{Term}
 use Rattle.diagram.specs.declared.table.Table.{Table}
 use Rattle.diagram.specs.Records.{Sound, form_at, children_at}
 use Rattle.diagram.specs.Store.{places_of, StandsAt, row_at, no_node, only}
-use Rattle.diagram.specs.Results.{LastResult}
+use Rattle.diagram.specs.Working.{LastResult}
 use Rattle.diagram.specs.Working.{Stands, WorkedOut}
 use Rattle.diagram.proofs.Children.{children_in_store}
 use Rattle.diagram.proofs.Places.{front, same_rows, kept}

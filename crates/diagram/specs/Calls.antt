@@ -1,5 +1,5 @@
 -- What each call answers, and what it leaves in the records and in the store.
-use Rattle.std.specs.Prelude.{◌≡◌, ℕ, ◌<◌, ◌≤◌, List, map, length, slice_index_or, Option, MatchOption, Result, Ok, Err, IsOkAnd, All, AllPairs, ◌≢◌}
+use Rattle.std.specs.Prelude.{◌≡◌, ℕ, ◌<◌, ◌≤◌, List, map, length, slice_index_or, Result, Ok, Err, IsOkAnd, All, AllPairs, ◌≢◌}
 use Rattle.kinds.specs.declared.performance.Performance
 use Rattle.kinds.specs.declared.weight.Weight
 use Rattle.terms.specs.declared.term.Term.{Term}
@@ -16,7 +16,7 @@ use Rattle.diagram.specs.Nodes.{Takes, EnoughStates}
 use Rattle.diagram.specs.Records.{form_at, status_at, size_at, Uses, children_at}
 use Rattle.diagram.specs.Changes.{PartAdded, NodeJoined, PartRestated, NodeCollected}
 use Rattle.diagram.specs.Store.{row_at, Kept, no_node, RowPut}
-use Rattle.diagram.specs.Results.{LastResult}
+use Rattle.diagram.specs.Results.{RunningResults}
 
 -- no node uses k
 abbrev pub Free : Table → ℕ → Type 0
@@ -78,7 +78,7 @@ module _ {P W : Type 0} (kind : Performance.Ghosts P) (weights : Weight.Ghosts W
         (Asked (EnoughStates (length states)) (Refused t s r t' s' WrongStates)
         ((row : Terms) × RowOf kind weights states row × (r ≡ Ok (length row)) × PartRestated t t' k (length row) × RowPut k row s s'))))
 
-    -- the last running result of the children's rows is put at k, or there is none
+    -- the last of the running results is put at k
     abbrev pub Collected : ℕ → Result ℕ Refusal → Table → Terms → Type 0
     Collected k r t' s' =
         Asked Roomy (Refused t s r t' s' ShortStore)
@@ -86,8 +86,9 @@ module _ {P W : Type 0} (kind : Performance.Ghosts P) (weights : Weight.Ghosts W
         (Asked (form_at t k ≢ Part) (Refused t s r t' s' NotJoined)
         (Asked (All (λ c. status_at t c ≡ UpToDate) (children_at t k)) (Refused t s r t' s' StaleChild)
         (Asked (ArmsFit t k) (Refused t s r t' s' LongArm)
-        ((answer : Option Terms) × LastResult kind weights (form_at t k) (map (row_at t s) (children_at t k)) answer
-        × MatchOption answer (TooLong t s r t' s') (λ row. (r ≡ Ok (length row)) × NodeCollected t t' k (length row) × RowPut k row s s'))))))
+        ((results : List Terms) × (row : Terms) × RunningResults kind weights (form_at t k) (map (row_at t s) (children_at t k)) results row
+        × Asked (All (λ result. length result ≤ 64) results) (TooLong t s r t' s')
+        ((r ≡ Ok (length row)) × NodeCollected t t' k (length row) × RowPut k row s s'))))))
 
     -- a question about node k: the records and the store are only read
     abbrev pub Asks : {A : Type 0} → ℕ → Result A Refusal → Type 0 → Type 0

@@ -1,5 +1,5 @@
 -- The running results of a joined node, from the rows of its children.
-use Rattle.std.specs.Prelude.{◌≡◌, ◌⊎◌, ◌<◌, ◌≤◌, List, [], ◌∷◌, length, Option, Some, None}
+use Rattle.std.specs.Prelude.{◌≡◌, List, [], ◌∷◌}
 use Rattle.kinds.specs.declared.performance.Performance
 use Rattle.kinds.specs.declared.weight.Weight
 use Rattle.terms.specs.declared.term.Term.{Term}
@@ -9,22 +9,23 @@ use Rattle.terms.specs.Combinations.{joins, combinations, bridges}
 use Rattle.diagram.specs.declared.node.Form.{Form}
 use Rattle.diagram.specs.declared.node.Form.TheVariants.{Joined, Bridge}
 
+-- the last of a row and the results that come after it
+abbrev pub last_from : {T : Type 0} → T → List T → T
+last_from row [] = row
+last_from row (next ∷ results) = last_from next results
+
 module _ {P W : Type 0} (kind : Performance.Ghosts P) (weights : Weight.Ghosts W) where
   abbrev Terms : Type 0
   Terms = List (Term P W)
 
-  -- the row of the combinations is a running result of at most 64 terms, from which it goes on, or there is no result
-  abbrev pub OneResult : Terms → (Terms → Type 0) → Option Terms → Type 0
-  OneResult combined goes_on answer =
-      (row : Terms) × RowOf kind weights combined row × (((length row ≤ 64) × goes_on row) ⊎ ((64 < length row) × (answer ≡ None)))
+  -- from the row of the first children on, a result for each further child: the row of the result before it combined with the child's row
+  abbrev pub ResultsOn : Way → Terms → List Terms → List Terms → Type 0
+  ResultsOn way before [] [] = Unit {0}
+  ResultsOn way before (next ∷ rows) (row ∷ results) = RowOf kind weights (combinations weights (joins kind way) before next) row × ResultsOn way row rows results
+  ResultsOn _ _ _ _ = ⊥
 
-  -- from the row of the first children on: each running result is that of the one before with the next child's row
-  abbrev pub RunsOn : Way → Terms → List Terms → Option Terms → Type 0
-  RunsOn way before [] answer = answer ≡ Some before
-  RunsOn way before (next ∷ rows) answer = OneResult (combinations weights (joins kind way) before next) (λ row. RunsOn way row rows answer) answer
-
-  -- the last running result of a node so joined from children with these rows
-  abbrev pub LastResult : Form → List Terms → Option Terms → Type 0
-  LastResult (Joined way) (first ∷ rows) answer = RunsOn way first rows answer
-  LastResult Bridge (a ∷ b ∷ c ∷ d ∷ e ∷ []) answer = OneResult (bridges kind weights a b c d e) (λ row. answer ≡ Some row) answer
-  LastResult _ _ answer = ⊥
+  -- the running results of a node so joined from children with these rows, and the last of them; a bridge has one
+  abbrev pub RunningResults : Form → List Terms → List Terms → Terms → Type 0
+  RunningResults (Joined way) (first ∷ rows) results last = ResultsOn way first rows results × (last ≡ last_from first results)
+  RunningResults Bridge (a ∷ b ∷ c ∷ d ∷ e ∷ []) results last = RowOf kind weights (bridges kind weights a b c d e) last × (results ≡ last ∷ [])
+  RunningResults _ _ _ _ = ⊥

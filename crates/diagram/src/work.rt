@@ -4,7 +4,7 @@ ghost use Rattle.diagram.specs.declared.node.Form.TheVariants.{Part};
 ghost use Rattle.diagram.specs.Records.{Sound, form_at, children_at, size_at};
 ghost use Rattle.diagram.specs.Store.{places_of, StandsAt, row_at, only};
 ghost use Rattle.diagram.specs.Working.{RowMade, InStore, Stands, WorkedOut};
-ghost use Rattle.diagram.specs.Results.{RunsOn, LastResult};
+ghost use Rattle.diagram.specs.Working.{RunsOn, LastResult};
 
 use crate::node::Form;
 use crate::table::Table;

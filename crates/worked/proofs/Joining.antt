@@ -1,5 +1,5 @@
 -- What a diagram of two joined parts answers: read off from the promise over all runs.
-use Rattle.std.proofs.Common.{◌≡◌, ◌≢◌, ℕ, zero, suc, ◌<◌, ◌≤◌, Bool, true, false, cond, List, [], ◌∷◌, length, All, AllPairs, Contains, Option, Some, None, MatchOption, IsErrAnd, ◌==◌, Result, Ok, Err, is_ok, sym, ◌∙◌, ap, refl, subst, inl, inr, arith}
+use Rattle.std.proofs.Common.{◌≡◌, ◌≢◌, ℕ, zero, suc, ◌<◌, ◌≤◌, Bool, true, false, cond, List, [], ◌∷◌, length, All, AllPairs, Contains, Option, Some, None, IsErrAnd, ◌==◌, Result, Ok, Err, is_ok, sym, ◌∙◌, ap, refl, subst, inl, inr, arith}
 use Rattle.std.proofs.lemmas.Bool.{true≢false}
 use Rattle.kinds.specs.declared.performance.Performance
 use Rattle.kinds.specs.declared.weight.Weight
@@ -114,11 +114,11 @@ module _ {P W : Type 0} (kind : Performance.Ghosts P) (weights : Weight.Ghosts W
   added_long t t' s s' states r x = kept_long x (λ x. kept_long x (λ x. kept_long x (λ x. x.1.3.others.as_long)))
 
   collected_long : (t t' : Table) (s s' : Terms) (k : ℕ) (r : Result ℕ Refusal) → Collected kind weights t s k r t' s' → length s' ≡ length s
-  collected_long t t' s s' k r x = kept_long x (λ x. kept_long x (λ x. kept_long x (λ x. kept_long x (λ x. kept_long x (λ x. last x.0 x.2)))))
+  collected_long t t' s s' k r x = kept_long x (λ x. kept_long x (λ x. kept_long x (λ x. kept_long x (λ x. kept_long x (λ x. last x.3)))))
     where
-      last : (answer : Option Terms) → MatchOption answer (TooLong t s r t' s') (λ row. (r ≡ Ok (length row)) × NodeCollected t t' k (length row) × RowPut k row s s') → length s' ≡ length s
-      last None x = x.store.as_long
-      last (Some row) x = x.2.others.as_long
+      last : {q : Type 0} {row : Terms} → Asked q (TooLong t s r t' s') ((r ≡ Ok (length row)) × NodeCollected t t' k (length row) × RowPut k row s s') → length s' ≡ length s
+      last (inl (short, x)) = x.2.others.as_long
+      last (inr (long, x)) = x.store.as_long
 
   module _ (promise : AnswersRight kind weights) where
     -- one call more, lent the store as it was left: its answer is right, and the run goes on

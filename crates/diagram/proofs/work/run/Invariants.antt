@@ -1,6 +1,6 @@
 use Rattle.std.proofs.Common.{◌≡◌, ◌≤◌, length, map, take, drop, Option}
 use Rattle.diagram.specs.Store.{row_at}
-use Rattle.diagram.specs.Results.{RunsOn}
+use Rattle.diagram.specs.Working.{RunsOn}
 use Rattle.diagram.proofs.work.run.Given as goal
 
 -- what is left to do gives the whole answer
