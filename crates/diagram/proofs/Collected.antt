@@ -1,5 +1,5 @@
 -- What a collecting answers, from what was worked out.
-use Rattle.std.proofs.Common.{◌≡◌, ℕ, ◌≤◌, List, map, length, take, drop, Option, Some, None, Result, Ok, Err, IsErrAnd, sym, ◌∙◌, ap, refl, subst, arith, All, inl, inr, is_some, unwrap_or, ok_or, ◌*◌, ◌+◌, ◌-◌}
+use Rattle.std.proofs.Common.{◌≡◌, ℕ, ◌≤◌, List, map, length, take, drop, Option, Some, None, Result, Ok, Err, IsErrAnd, sym, ◌∙◌, ap, refl, subst, arith, All, inl, inr, is_some, ok_or, ◌*◌, ◌+◌, ◌-◌}
 use Rattle.std.proofs.lemmas.Bool.{true≢false}
 use Rattle.std.proofs.lemmas.List.{length-take}
 use Rattle.kinds.specs.declared.performance.Performance
@@ -18,6 +18,7 @@ use Rattle.diagram.specs.Refusals.{Asked}
 use Rattle.diagram.proofs.Resulted.{results_of}
 use Rattle.kinds.proofs.Lawful.{Kind, Weighing}
 use Rattle.diagram.proofs.Asking.{err_is}
+use Rattle.diagram.proofs.Facts.{some_same}
 
 width : (k : ℕ) → 64 * k + 64 - 64 * k ≡ 64
 width k = omega arith
@@ -41,9 +42,6 @@ TheErr e = Err e
 
 err_same : {e e' : Refusal} → TheErr e ≡ TheErr e' → e ≡ e'
 err_same {e} p = ap (err_of e) p
-
-pub some_same : {a b : ℕ} → Some a ≡ Some b → a ≡ b
-some_same {a} e = ap (λ o. unwrap_or o a) e
 
 module _ {P W : Type 0} (kind : Performance.Ghosts P) (weights : Weight.Ghosts W) (laws : Kind kind) (weigh : Weighing weights) (t : Table) (k : ℕ) (before after : List (Term P W)) where
   abbrev Told : Result ℕ Refusal → Table → Type 0

@@ -1,6 +1,6 @@
 -- A history that makes one more node fits the records with that node.
 use Rattle.std.proofs.Common.{◌≡◌, ◌≢◌, ◌⊎◌, ◌↔◌, ℕ, ◌+◌, ◌<◌, ◌≤◌, List, [], ◌∷◌, length, take, Contains, Option, Some, None, sym, ◌∙◌, ap, refl, subst, inl, inr, arith, ◌==◌}
-use Rattle.std.proofs.lemmas.Bool.{cases_lt, cases_Bool, true≢false}
+use Rattle.std.proofs.lemmas.Bool.{cases_Bool, true≢false}
 use Rattle.std.specs.List.{list_any}
 use Rattle.kinds.specs.declared.performance.Performance
 use Rattle.kinds.specs.declared.weight.Weight
@@ -27,6 +27,7 @@ use Rattle.diagram.proofs.Drawn.{Drawn, drawn_form}
 use Rattle.diagram.proofs.Listed.{drawn_same}
 use Rattle.diagram.proofs.Placed.{beneath_within}
 use Rattle.diagram.proofs.Holding.{Matches, Holds, but_at, but_else}
+use Rattle.diagram.proofs.Facts.{last_or_before}
 
 pub matches_same : {P W : Type 0} (m : Making P W) (t t' : Table) (k : ℕ) → form_at t' k ≡ form_at t k → children_at t' k ≡ children_at t k → Matches m t k → Matches m t' k
 matches_same (added states) t t' k f c h = (f ∙ h.0, c ∙ h.1)
@@ -38,9 +39,6 @@ drawn_as_made (added states) t k drawing h = sym (ap (λ f. drawn_form f k (chil
 drawn_as_made (joined_from way []) t k drawing h = sym (ap (λ f. drawn_form f k (children_at t k) drawing) h.0 ∙ ap (λ cs. drawn_form (Joined way) k cs drawing) h.1)
 drawn_as_made (joined_from way (c ∷ cs)) t k drawing h = sym (ap (λ f. drawn_form f k (children_at t k) drawing) h.0 ∙ ap (λ cs. drawn_form (Joined way) k cs drawing) h.1)
 drawn_as_made (bridged_from a b c d e) t k drawing h = sym (ap (λ f. drawn_form f k (children_at t k) drawing) h.0 ∙ ap (λ cs. drawn_form Bridge k cs drawing) h.1)
-
-last_or_before : {j n : ℕ} → j < n + 1 → (j < n) ⊎ (j ≡ n)
-last_or_before {j} {n} h = elim (cases_lt j n) [ inl l ↦ inl l | inr g ↦ inr (omega (arith, h, g)) ]
 
 -- one more node, so made
 pub record Grown {P W : Type 0} (m : Making P W) (t t' : Table) : Type 0 where

@@ -1,7 +1,7 @@
 -- What holds of the records at all times is kept by each change.
-use Rattle.std.proofs.Common.{◌≡◌, ◌≢◌, ◌⊎◌, ℕ, ◌+◌, ◌<◌, ◌≤◌, List, Contains, All, AllPairs, length, Some, None, sym, ◌∙◌, ap, refl, subst, inl, inr, arith, Bool, true, false, ◌==◌, Option, is_some, unwrap_or}
+use Rattle.std.proofs.Common.{◌≡◌, ◌≢◌, ◌⊎◌, ℕ, ◌<◌, ◌≤◌, List, Contains, All, AllPairs, length, Some, None, sym, ◌∙◌, ap, refl, subst, inl, inr, arith, Bool, true, false, ◌==◌, Option, is_some}
 use Rattle.std.specs.List.{list_any}
-use Rattle.std.proofs.lemmas.Bool.{true≢false, false≢true, cases_lt, cases_eq, cases_Bool}
+use Rattle.std.proofs.lemmas.Bool.{true≢false, false≢true, cases_eq, cases_Bool}
 use Rattle.std.proofs.lemmas.List.Elements.{All-contains}
 use Rattle.diagram.specs.declared.node.Form.{Form}
 use Rattle.diagram.specs.declared.node.Form.TheVariants.{Part, Joined, Bridge}
@@ -15,15 +15,11 @@ use Rattle.diagram.specs.Changes.{PartAdded, NodeJoined, PartRestated, NodeColle
 use Rattle.diagram.specs.Calls.{Free}
 use Rattle.diagram.proofs.Naming.{test_finds, found_by_test}
 use Rattle.diagram.proofs.Climbing.{child_is_below}
+use Rattle.diagram.proofs.Facts.{some_same, last_or_before, user_of, is_part}
 
 abbrev is_stale : Status → Bool
 is_stale Stale = true
 is_stale UpToDate = false
-
-abbrev pub is_part : Form → Bool
-is_part Part = true
-is_part (Joined way) = false
-is_part Bridge = false
 
 pub not_both : {x : Status} → x ≡ Stale → x ≡ UpToDate → ⊥
 not_both p q = true≢false (ap is_stale (sym p ∙ q))
@@ -35,21 +31,12 @@ current_unless UpToDate n = refl
 not_none : {u : ℕ} → None ≡ Some u → ⊥
 not_none e = false≢true (ap is_some e)
 
-some_same : {u v : ℕ} → Some u ≡ Some v → u ≡ v
-some_same {u} e = ap (λ o. unwrap_or o u) e
-
-last_or_before : {j n : ℕ} → j < n + 1 → (j < n) ⊎ (j ≡ n)
-last_or_before {j} {n} h = elim (cases_lt j n) [ inl l ↦ inl l | inr g ↦ inr (omega (arith, h, g)) ]
-
 fitting_same : {f f' : Form} {x x' : Status} {n n' : ℕ} {cs cs' : List ℕ} {k : ℕ} → f' ≡ f → x' ≡ x → n' ≡ n → cs' ≡ cs → Fitting f x n cs k → Fitting f' x' n' cs' k
 fitting_same {f} {f'} {x} {x'} {n} {n'} {cs} {cs'} {k} ef ex en ec o =
     subst (λ c. Fitting f' x' n' c k) (sym ec) (subst (λ m. Fitting f' x' m cs k) (sym en) (subst (λ y. Fitting f' y n cs k) (sym ex) (subst (λ g. Fitting g x n cs k) (sym ef) o)))
 
 names_same : {cs ds : List ℕ} (k : ℕ) → cs ≡ ds → list_any (λ c. k == c) cs ≡ true → list_any (λ c. k == c) ds ≡ true
 names_same k e h = subst (λ z. list_any (λ c. k == c) z ≡ true) e h
-
-abbrev user_of : Node → Option ℕ
-user_of n = n.user
 
 module _ {t t' : Table} (s : Sound t) where
   pub added_keeps : {size : ℕ} → t.count < 48 → size ≤ 64 → PartAdded t t' size → All (λ n. n ≤ 8) t'.arities → Sound t'

@@ -13,6 +13,7 @@ pub mod Asking
 pub mod Resulted
 pub mod Collected
 pub mod Drawn
+pub mod Facts
 pub mod Resulting
 pub mod Listed
 pub mod Placed

@@ -8,6 +8,7 @@ use Rattle.diagram.specs.declared.table.Table.{Table}
 use Rattle.diagram.specs.Records.{Sound, node_at, status_at}
 use Rattle.diagram.specs.Writing.{NodesOnly, MarkedAbove}
 use Rattle.diagram.proofs.Climbing.{Above, user, higher, beneath_from_above, above_from_beneath}
+use Rattle.diagram.proofs.Facts.{user_of}
 
 -- j is the next node, if there is one, or above it
 abbrev pub From : Table → Option ℕ → ℕ → Type 0
@@ -33,16 +34,6 @@ with_next {t} {now} {k} c e = subst (Climbed t now k) e c
 abbrev pub to_top : Option ℕ → ℕ
 to_top None = 0
 to_top (Some u) = 48 - u
-
-abbrev user_of : Node → Option ℕ
-user_of n = n.user
-
-some_same : {u v : ℕ} → Some u ≡ Some v → u ≡ v
-some_same {u} e = ap (λ o. from u o) e
-  where
-    from : ℕ → Option ℕ → ℕ
-    from d None = d
-    from d (Some x) = x
 
 -- what is above a node is its user or above that
 by_user : {t : Table} {k j : ℕ} → Above t k j → From t (node_at t k).user j

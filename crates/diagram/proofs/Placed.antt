@@ -1,5 +1,5 @@
 -- In the drawing of a node stand exactly the parts at and below it, each once.
-use Rattle.std.proofs.Common.{◌≡◌, ◌≢◌, ◌⊎◌, ◌↔◌, ℕ, zero, suc, ◌<◌, Bool, true, false, List, ◌∷◌, Contains, AllPairs, Option, Some, unwrap_or, sym, refl, ap, ◌∙◌, subst, inl, inr, arith}
+use Rattle.std.proofs.Common.{◌≡◌, ◌≢◌, ◌⊎◌, ◌↔◌, ℕ, zero, suc, ◌<◌, true, List, ◌∷◌, Contains, AllPairs, Option, Some, unwrap_or, sym, refl, ap, ◌∙◌, subst, inl, inr, arith}
 use Rattle.std.proofs.lemmas.Bool.{true≢false, eq-eqb, eqb-true}
 use Rattle.terms.specs.Drawings.{Drawing, part, one, has, NoneTwice, places, places_of, Beneath, NoPartTwice}
 use Rattle.diagram.specs.declared.node.Form.{Form}
@@ -11,15 +11,11 @@ use Rattle.diagram.proofs.Naming.{test_finds}
 use Rattle.diagram.proofs.Climbing.{Above, user, higher, above_then, child_is_below, beneath_from_above}
 use Rattle.diagram.proofs.Drawn.{drawn_form, Drawn}
 use Rattle.diagram.proofs.Listed.{beneath_all, none_twice_all, drawn_places}
+use Rattle.diagram.proofs.Facts.{is_part}
 
 -- part n is k itself or below it
 abbrev pub Within : Table → ℕ → ℕ → Type 0
 Within t n k = (n ≡ k) ⊎ Above t n k
-
-abbrev is_part : Form → Bool
-is_part Part = true
-is_part (Joined way) = false
-is_part Bridge = false
 
 pub part_or_not : (form : Form) → (form ≡ Part) ⊎ (form ≢ Part)
 part_or_not Part = inl refl

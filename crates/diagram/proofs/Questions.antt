@@ -19,7 +19,7 @@ use Rattle.diagram.specs.Histories.{Making, added, joined_from, bridged_from, na
 use Rattle.diagram.specs.RightAnswers.{RowOfNode, ArmsShort}
 use Rattle.diagram.proofs.Naming.{test_finds, found_by_test}
 use Rattle.diagram.proofs.Climbing.{child_is_below}
-use Rattle.diagram.proofs.Keeping.{is_part}
+use Rattle.diagram.proofs.Facts.{is_part}
 use Rattle.diagram.proofs.Holding.{Matches, Holds}
 
 part_not_joined : {f : Form} → f ≡ Part → is_part f ≡ true

@@ -28,8 +28,8 @@ use Rattle.diagram.specs.Histories.{Call, adding, joining, bridging, restating, 
 use Rattle.diagram.specs.RightAnswers.{RightAnswer, RowOfNode, ResultsShort}
 use Rattle.diagram.specs.RightAnswers as RA
 use Rattle.diagram.specs.Runs.{told}
-use Rattle.diagram.proofs.Keeping.{is_part}
-use Rattle.diagram.proofs.Collected.{none_or_some, some_same}
+use Rattle.diagram.proofs.Facts.{is_part, some_same}
+use Rattle.diagram.proofs.Collected.{none_or_some}
 use Rattle.diagram.proofs.Since.{contains_cons, collecting_in, since_now, since_kept, since_split}
 use Rattle.diagram.proofs.Holding.{Holds, Matches, holds_there, but_else}
 use Rattle.diagram.proofs.Growing.{holds_added, holds_joined}
@@ -303,6 +303,12 @@ module _ {P W : Type 0} (kind : Performance.Ghosts P) (weights : Weight.Ghosts W
         ends : k < t.count → drawing_of h k ≡ drawn_form (form_at t k) k (children_at t k) (drawing_of h)
         ends low = holds.drawn k low
 
+        rows : k < t.count → All (λ c. status_at t c ≡ UpToDate) (children_at t k) → (c : ℕ) → Contains (children_at t k) c → RowOf kind weights (enumeration kind weights (states_of h) (drawing_of h c)) (row_at t s c)
+        rows low current c i = holds.rows c (child_known kind weights h t s sound holds k low c i) (All-contains (λ c. status_at t c ≡ UpToDate) (children_at t k) c current i)
+
+        once : k < t.count → NoPartTwice (drawn_form (form_at t k) k (children_at t k) (drawing_of h))
+        once low = subst NoPartTwice (ends low) (none_twice sound holds.drawn k low)
+
         worked : k < t.count → form_at t k ≢ Part → All (λ c. status_at t c ≡ UpToDate) (children_at t k) → (results : List (List (Term P W))) (row : List (Term P W)) →
             RunningResults kind weights (form_at t k) (map (row_at t s) (children_at t k)) results row →
             Asked (All (λ result. length result ≤ 64) results) (TooLong t s r t' s') ((r ≡ Ok (length row)) × NodeCollected t t' k (length row) × RowPut k row s s') →
@@ -312,12 +318,6 @@ module _ {P W : Type 0} (kind : Performance.Ghosts P) (weights : Weight.Ghosts W
             let y = too_long_after k reply r x e in
             let long = last_long laws weigh (states_of h) (drawing_of h) (row_at t s) (form_at t k) k (children_at t k) (rows low current) (once low) last in
             (inr ((λ short. let b = short long.0 (subst (λ z. RunningResult kind weights (states_of h) z long.0) (sym (ends low)) long.1) in absurd (omega (arith, b, long.2))), y.0), y.1)
-          where
-            rows : k < t.count → All (λ c. status_at t c ≡ UpToDate) (children_at t k) → (c : ℕ) → Contains (children_at t k) c → RowOf kind weights (enumeration kind weights (states_of h) (drawing_of h c)) (row_at t s c)
-            rows low current c i = holds.rows c (child_known kind weights h t s sound holds k low c i) (All-contains (λ c. status_at t c ≡ UpToDate) (children_at t k) c current i)
-
-            once : k < t.count → NoPartTwice (drawn_form (form_at t k) k (children_at t k) (drawing_of h))
-            once low = subst NoPartTwice (ends low) (none_twice sound holds.drawn k low)
         worked low joined current results row are (inl (short, x)) =
             let last = last_of kind weights laws weigh (form_at t k) (map (row_at t s) (children_at t k)) results row are short in
             let is = e ∙ ap (told number) x.0 in
@@ -336,12 +336,6 @@ module _ {P W : Type 0} (kind : Performance.Ghosts P) (weights : Weight.Ghosts W
               ),
             )
           where
-            rows : k < t.count → All (λ c. status_at t c ≡ UpToDate) (children_at t k) → (c : ℕ) → Contains (children_at t k) c → RowOf kind weights (enumeration kind weights (states_of h) (drawing_of h c)) (row_at t s c)
-            rows low current c i = holds.rows c (child_known kind weights h t s sound holds k low c i) (All-contains (λ c. status_at t c ≡ UpToDate) (children_at t k) c current i)
-
-            once : k < t.count → NoPartTwice (drawn_form (form_at t k) k (children_at t k) (drawing_of h))
-            once low = subst NoPartTwice (ends low) (none_twice sound holds.drawn k low)
-
             left : (j : ℕ) → CollectedSince (entry (collecting k) lent (Ok (number (length row))) ∷ h) j → (j ≡ k) ⊎ CollectedSince h j
             left j c = elim (since_split (entry (collecting k) lent (Ok (number (length row)))) h j refl c) [ inl x ↦ inl (sym (some_same x)) | inr x ↦ inr x.0 ]
 
