@@ -1,0 +1,21 @@
+-- What the program writes.
+use Rattle.std.specs.Prelude.{ℕ, List, [], ◌∷◌, ◌++◌, length, take, Option, Result, Ok, Err, ◌≡◌}
+use Rattle.std.specs.Io.KnownBytes.{Appends}
+use Rattle.files.specs.declared.fault.Fault.{Fault}
+use Rattle.files.specs.Faults.{fault_text}
+use Rattle.files.specs.Listed.{Analysed}
+use Rattle.files.specs.Reports.{longest_report}
+
+-- how many bytes of the input are looked at
+abbrev pub looked_at : ℕ
+looked_at = 50001
+
+-- the report, which is first in the output; or the fault and the end of the line
+abbrev pub printed : Result ℕ Fault → List ℕ → List ℕ
+printed (Ok n) out = take n out
+printed (Err f) out = fault_text f ++ 10 ∷ []
+
+-- what was written grew by the answer to the model
+abbrev pub Answers : List ℕ → Option (List ℕ) → Option (List ℕ) → Type 0
+Answers model old new =
+    (out : List ℕ) × (r : Result ℕ Fault) × (out' : List ℕ) × (length out ≡ longest_report) × Analysed model out r out' × Appends old new (printed r out')

@@ -1,0 +1,45 @@
+// Prints the report on the model file that is standard input, or its fault.
+#![tactic(auto)]
+
+ghost use Rattle.std.specs.Prelude.{◌≡◌, IfOk, IfSome, OnOk, take};
+ghost use Rattle.analyse.specs.Printed.{looked_at, Answers};
+
+use files::analysis::{LONGEST_REPORT, analyse};
+use std::alloc::Global;
+use std::io;
+use std::io::{Read, Write};
+
+// How much of its input the program looks at.
+const LOOKED_AT: u64 = 50001;
+
+// The model file, as far as it is looked at.
+fn model_file<R: Read + Drop>(alloc: Global, input: R) -> io::Result<Vec<u8>>
+    ensures { IfOk result (λ model. IfSome (R.remaining input) (λ bytes. model.items ≡ take looked_at bytes)) }
+{
+    let mut model = Vec::new(alloc);
+    input.take(LOOKED_AT).read_to_end(&mut model)?;
+    Ok(model)
+}
+
+// Writes what the model comes to: its report, or the line of its fault.
+fn answer<W: Write>(model: &[u8], page: &mut W) -> io::Result<()>
+    ensures { OnOk result (Answers model.now (W.contents page.old) (W.contents page.new)) }
+{
+    let mut output = [0; LONGEST_REPORT];
+    match analyse(model, &mut output) {
+        Ok(len) => page.write_all(&output[..len]),
+        Err(fault) => writeln!(page, "{fault}"),
+    }
+}
+
+// The program, from its input to its page.
+fn run<R: Read + Drop, W: Write>(alloc: Global, input: R, page: &mut W) -> io::Result<()>
+    ensures { OnOk result (IfSome (R.remaining input) (λ bytes. Answers (take looked_at bytes) (W.contents page.old) (W.contents page.new))) }
+{
+    let model = model_file(alloc, input)?;
+    answer(&model, page)
+}
+
+fn main(rt: HostRuntime) -> io::Result<()> {
+    run(rt.alloc(), rt.stdin(), &mut rt.stdout())
+}

@@ -1,0 +1,15 @@
+pub mod Analysing
+pub mod Asking
+pub mod Bytes
+pub mod Collecting
+pub mod Lent
+pub mod Lines
+pub mod Many
+pub mod ManyNodes
+pub mod Models
+pub mod OneNode
+pub mod Pages
+pub mod Reading
+pub mod Running
+pub mod Shown
+pub mod Writing

@@ -1,0 +1,15 @@
+pub mod Values
+pub mod Words
+pub mod WordLaws
+pub mod Faults
+pub mod Contents
+pub mod Drawn
+pub mod Reading
+pub mod Reports
+pub mod Analyses
+pub mod Steps
+pub mod Pages
+pub mod Models
+pub mod Composed
+pub mod Listed
+pub mod Sizes

@@ -1,0 +1,42 @@
+-- What reading makes of a file: a diagram that these calls have drawn, and the demands.
+use Rattle.std.specs.Prelude.{◌≡◌, ℕ, ◌-◌, ◌<◌, ◌≤◌, List, length, get_or, flat_map, Result, Ok, Err, IsOkAnd}
+use Rattle.kinds.specs.declared.performance.Performance
+use Rattle.kinds.specs.declared.weight.Weight
+use Rattle.terms.specs.declared.term.Term.{Term}
+use Rattle.diagram.specs.declared.refusal.Refusal.TheVariants.{ShortStore}
+use Rattle.diagram.specs.Refusals.{Asked}
+use Rattle.diagram.specs.Store.{Kept}
+use Rattle.diagram.specs.Runs.{Run}
+use Rattle.files.specs.declared.value.FilePerformance
+use Rattle.files.specs.declared.value.FileWeight
+use Rattle.files.specs.declared.fault.Fault.{Fault}
+use Rattle.files.specs.declared.fault.Fault.TheVariants.{Refused}
+use Rattle.files.specs.declared.model.Model.{Model}
+use Rattle.files.specs.Contents.{Contents, performance_bytes}
+use Rattle.files.specs.Drawn.{history_of}
+use Rattle.files.specs.Reading.{Counted, ContentsRead}
+
+-- What is left of the store: all of it, if it is too short, or if the file does not say how many records it has; else what are not the
+-- places of the file's nodes.
+abbrev pub StoreLeft : {T : Type 0} → List ℕ → List T → List T → Type 0
+StoreLeft bytes s s' = Asked (3200 ≤ length s) (s' ≡ s) (Asked (Counted bytes) (s' ≡ s) (Kept (λ j. j < get_or bytes 0 0 - 1) s s'))
+
+module _ {P W : Type 0} (kind : Performance.Ghosts P) (weights : Weight.Ghosts W) (file_kind : FilePerformance.Ghosts P) (file_weights : FileWeight.Ghosts W) where
+  abbrev Terms : Type 0
+  Terms = List (Term P W)
+
+  -- m holds these contents: its diagram and the store are what the calls that made the nodes have left
+  pub record Shows (lent : ℕ) (c : Contents P W) (s : Terms) (m : Model P W) : Type 0 where
+    pub run : Run kind weights (history_of lent c.nodes) m.diagram s
+    pub nodes : m.nodes ≡ length c.nodes
+    pub demands : m.demands.now ≡ flat_map (performance_bytes file_kind) c.demands
+
+  abbrev pub ShowsOr : ℕ → Result (Contents P W) Fault → Terms → Result (Model P W) Fault → Type 0
+  ShowsOr lent (Ok c) s r = IsOkAnd r (Shows lent c s)
+  ShowsOr lent (Err why) s r = r ≡ Err why
+
+  -- a store of 3,200 terms is asked for first; then the file is asked
+  abbrev pub ReadInto : List ℕ → Terms → Result (Model P W) Fault → Terms → Type 0
+  ReadInto bytes s r s' =
+      Asked (3200 ≤ length s) (r ≡ Err (Refused 255 ShortStore))
+      ((answer : Result (Contents P W) Fault) × ContentsRead kind weights file_kind file_weights bytes answer × ShowsOr (length s) answer s' r)

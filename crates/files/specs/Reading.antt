@@ -1,0 +1,84 @@
+-- The questions that a model file is asked, record by record, and the contents that it has where each is answered yes.
+use Rattle.std.specs.Prelude.{◌≡◌, ◌↔◌, ℕ, zero, suc, ◌-◌, ◌*◌, ◌≤◌, ◌⊎◌, cond, ◌==◌, List, [], ◌∷◌, ◌++◌, length, get_or, drop, Result, Ok, Err}
+use Rattle.kinds.specs.declared.performance.Performance
+use Rattle.kinds.specs.declared.weight.Weight
+use Rattle.diagram.specs.Refusals.{Asked}
+use Rattle.diagram.specs.Histories.{Making}
+use Rattle.files.specs.declared.value.FilePerformance
+use Rattle.files.specs.declared.value.FileWeight
+use Rattle.files.specs.declared.fault.Fault.{Fault}
+use Rattle.files.specs.declared.fault.Fault.TheVariants.{Records, Letter, Body, LeftOver, Value, Refused}
+use Rattle.files.specs.Contents.{Contents, Ahead, part_letter, series_letter, parallel_letter, bridge_letter, demand_letter, node_bytes, demand_bytes, contents_bytes}
+use Rattle.files.specs.Drawn.{Takes, TakenOr}
+
+-- the number of records stands first
+abbrev pub Counted : List ℕ → Type 0
+Counted (count ∷ records) = (2 ≤ count) × (count ≤ 49)
+Counted [] = ⊥
+
+-- the letters of records that make nodes
+abbrev pub NodeLetter : ℕ → Type 0
+NodeLetter l = (l ≡ part_letter) ⊎ (l ≡ series_letter) ⊎ (l ≡ parallel_letter) ⊎ (l ≡ bridge_letter)
+
+-- the letter of the last record
+abbrev pub DemandLetter : ℕ → Type 0
+DemandLetter l = l ≡ demand_letter
+
+-- two bytes are left, and the first is a right letter
+abbrev pub Headed : (ℕ → Type 0) → List ℕ → Type 0
+Headed IsRight (letter ∷ count ∷ body) = IsRight letter
+Headed IsRight bytes = ⊥
+
+-- how many bytes such a record has after its letter and its count
+abbrev pub body_length : ℕ → ℕ → ℕ
+body_length letter count = cond (letter == part_letter) (16 * count) (cond (letter == demand_letter) (8 * count) count)
+
+-- the count may be, and the body is all there
+abbrev pub Whole : List ℕ → Type 0
+Whole (letter ∷ count ∷ body) =
+    (letter ≡ bridge_letter → count ≡ 5) × (letter ≡ demand_letter → (1 ≤ count) × (count ≤ 16)) × (body_length letter count ≤ length body)
+Whole bytes = ⊥
+
+module _ {P W : Type 0} (kind : Performance.Ghosts P) (weights : Weight.Ghosts W) (file_kind : FilePerformance.Ghosts P) (file_weights : FileWeight.Ghosts W) where
+  abbrev Answer : Type 0
+  Answer = Result (Contents P W) Fault
+
+  -- the last record, after these nodes: the demands, and then the file is at its end
+  abbrev pub DemandsRead : List (Making P W) → List ℕ → Answer → Type 0
+  DemandsRead ms bytes answer =
+      Asked (Headed DemandLetter bytes) (answer ≡ Err (Letter (length ms)))
+      (Asked (Whole bytes) (answer ≡ Err (Body (length ms)))
+      (Asked (Ahead (demand_bytes file_kind) bytes) (answer ≡ Err (Value (length ms)))
+      ((demands : List P) × (rest : List ℕ) × (bytes ≡ demand_bytes file_kind demands ++ rest) ×
+      Asked (rest ≡ []) (answer ≡ Err LeftOver)
+      (answer ≡ Ok (record { nodes = ms; demands = demands })))))
+
+  -- so many records that make nodes, after these, and then the last
+  abbrev pub RecordsRead : ℕ → List (Making P W) → List ℕ → Answer → Type 0
+  RecordsRead zero ms bytes answer = DemandsRead ms bytes answer
+  RecordsRead (suc n) ms bytes answer =
+      Asked (Headed NodeLetter bytes) (answer ≡ Err (Letter (length ms)))
+      (Asked (Whole bytes) (answer ≡ Err (Body (length ms)))
+      (Asked (Ahead (node_bytes file_kind file_weights) bytes) (answer ≡ Err (Value (length ms)))
+      ((m : Making P W) × (rest : List ℕ) × (bytes ≡ node_bytes file_kind file_weights m ++ rest) ×
+      TakenOr kind weights ms m (λ why. answer ≡ Err (Refused (length ms) why)) (RecordsRead n (m ∷ ms) rest answer))))
+
+  -- what a file says from the number of its records on: its contents, or its first fault
+  abbrev pub ContentsRead : List ℕ → Answer → Type 0
+  ContentsRead bytes answer = Asked (Counted bytes) (answer ≡ Err Records) (RecordsRead (get_or bytes 0 0 - 1) [] (drop 1 bytes) answer)
+
+  -- contents that a file may have
+  pub record Sound (c : Contents P W) : Type 0 where
+    pub nodes : (1 ≤ length c.nodes) × (length c.nodes ≤ 48)
+    pub demands : (1 ≤ length c.demands) × (length c.demands ≤ 16)
+    pub taken : Takes kind weights c.nodes
+
+  -- a file is read as these contents exactly if it is their writing, and they are sound
+  abbrev pub ReadsBack : Type 0
+  ReadsBack =
+      (bytes : List ℕ) (answer : Answer) → ContentsRead bytes answer → (c : Contents P W) →
+      (answer ≡ Ok c) ↔ ((bytes ≡ contents_bytes file_kind file_weights c) × Sound c)
+
+  -- and there is one answer
+  abbrev pub ReadsOneWay : Type 0
+  ReadsOneWay = (bytes : List ℕ) (a b : Answer) → ContentsRead bytes a → ContentsRead bytes b → a ≡ b
