@@ -1,0 +1,51 @@
+// The numbers that stand after a call's name, and what they write.
+
+use crate::written::Written;
+use anyhow::bail;
+use kinds::values::Parts;
+use terms::term::Term;
+
+pub fn numbers(rt: &HostRuntime, text: &str) -> anyhow::Result<Vec<u32>> {
+    let mut found = Vec::new(rt.alloc());
+    for word in text.split_whitespace() {
+        let Ok(number) = word.parse::<u32>() else {
+            bail!("{word} is no number of 32 bits");
+        };
+        found.push(number)?;
+    }
+    Ok(found)
+}
+
+// Numbers of nodes.
+pub fn nodes(rt: &HostRuntime, numbers: &[u32]) -> anyhow::Result<Vec<usize>> {
+    let mut found = Vec::new(rt.alloc());
+    for &number in numbers {
+        found.push(number as usize)?;
+    }
+    Ok(found)
+}
+
+pub fn performance<P: Written>(high: u32, low: u32) -> anyhow::Result<P> {
+    let Some(performance) = P::of_words(high, low) else {
+        bail!("the words {high} and {low} write no performance");
+    };
+    Ok(performance)
+}
+
+// States: two words and a weight each.
+pub fn states<P: Written>(
+    rt: &HostRuntime,
+    numbers: &[u32],
+) -> anyhow::Result<Vec<Term<P, Parts>>> {
+    let mut found = Vec::new(rt.alloc());
+    for state in numbers.chunks(3) {
+        let &[high, low, weight] = state else {
+            bail!("a state has two words and a weight");
+        };
+        found.push(Term {
+            performance: performance(high, low)?,
+            weight: Parts::new(weight),
+        })?;
+    }
+    Ok(found)
+}

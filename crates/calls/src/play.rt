@@ -1,0 +1,141 @@
+// A sequence of calls, made on a diagram.
+
+use crate::numbers;
+use crate::written::Written;
+use anyhow::bail;
+use diagram::diagram::Diagram;
+use diagram::refusal::Refusal;
+use kinds::performance::Performance;
+use kinds::values::Parts;
+use std::fmt;
+use terms::term::{Term, Way};
+
+// How many terms a call is lent, and how many one is that begins with `short`.
+const STORE: usize = 3200;
+
+const SHORT: usize = 3199;
+
+// What is answered, or by which number it is refused.
+fn told<T: fmt::Display + Drop>(
+    rt: &HostRuntime,
+    answer: Result<T, Refusal>,
+) -> anyhow::Result<String> {
+    match answer {
+        Ok(answer) => Ok(format!(in rt.alloc(); "{answer}")?),
+        Err(refusal) => {
+            let number = refusal.number();
+            Ok(format!(in rt.alloc(); "no {number}")?)
+        }
+    }
+}
+
+fn told_term<P: Written>(
+    rt: &HostRuntime,
+    answer: Result<Term<P, Parts>, Refusal>,
+) -> anyhow::Result<String> {
+    match answer {
+        Ok(
+            Term {
+                performance,
+                weight,
+            },
+        ) => {
+            let (high, low) = performance.words();
+            Ok(format!(in rt.alloc(); "{high} {low} {weight}")?)
+        }
+        Err(refusal) => told::<usize>(rt, Err(refusal)),
+    }
+}
+
+fn told_both(rt: &HostRuntime, answer: Result<(Parts, Parts), Refusal>) -> anyhow::Result<String> {
+    match answer {
+        Ok((met, all)) => Ok(format!(in rt.alloc(); "{met} {all}")?),
+        Err(refusal) => told::<usize>(rt, Err(refusal)),
+    }
+}
+
+// A question, or a collecting, of a node.
+fn ask<P: Performance + Written>(
+    rt: &HostRuntime,
+    diagram: &mut Diagram<P, Parts>,
+    store: &mut [Term<P, Parts>],
+    name: &str,
+    numbers: &[u32],
+) -> anyhow::Result<String> {
+    match (name, numbers) {
+        ("collect", &[k]) => told(rt, diagram.collect(store, k as usize)),
+        ("size", &[k]) => told(rt, diagram.size(store, k as usize)),
+        ("term", &[k, i]) => told_term(rt, diagram.term(store, k as usize, i as usize)),
+        ("total", &[k]) => told(rt, diagram.total(store, k as usize)),
+        ("availability", &[k, high, low]) => {
+            let demand = numbers::performance(high, low)?;
+            told_both(rt, diagram.availability(store, k as usize, demand))
+        }
+        _ => bail!("no call is named {name}, with such numbers"),
+    }
+}
+
+// Makes a call, and tells what it is answered.
+fn call<P: Performance + Written>(
+    rt: &HostRuntime,
+    diagram: &mut Diagram<P, Parts>,
+    store: &mut [Term<P, Parts>],
+    line: &str,
+) -> anyhow::Result<String> {
+    let (name, rest) = line.split_once(' ').unwrap_or((line, ""));
+    let numbers = numbers::numbers(rt, rest)?;
+    match (name, numbers.as_slice()) {
+        ("add", states) => {
+            let states = numbers::states(rt, states)?;
+            told(rt, diagram.add(store, &states))
+        }
+        ("restate", &[k, ref states @ ..]) => {
+            let states = numbers::states(rt, states)?;
+            told(rt, diagram.restate(store, k as usize, &states))
+        }
+        ("series", children) => {
+            let children = numbers::nodes(rt, children)?;
+            told(rt, diagram.join(store, Way::Series, &children))
+        }
+        ("parallel", children) => {
+            let children = numbers::nodes(rt, children)?;
+            told(rt, diagram.join(store, Way::Parallel, &children))
+        }
+        ("bridge", &[a, b, c, d, e]) => {
+            let arms = [a as usize, b as usize, c as usize, d as usize, e as usize];
+            told(rt, diagram.join_bridge(store, arms))
+        }
+        (name, numbers) => ask(rt, diagram, store, name, numbers),
+    }
+}
+
+// Makes the calls, one a line, and answers how many; an error where one is answered other than it says.
+pub fn play<P: Performance + Written>(rt: &HostRuntime, calls: &str) -> anyhow::Result<usize> {
+    let blank = Term {
+        performance: numbers::performance::<P>(0, 0)?,
+        weight: Parts::new(0),
+    };
+    let mut store = vec![in rt.alloc(); blank; STORE]?;
+    let Ok(mut diagram) = Diagram::new(&store) else {
+        bail!("the store is too short");
+    };
+    let mut made = 0usize;
+    for line in calls.lines() {
+        let Some((asked, wanted)) = line.split_once(" = ") else {
+            bail!("no answer is wanted of: {line}");
+        };
+        let (asked, len) = match asked.strip_prefix("short ") {
+            Some(asked) => (asked, SHORT),
+            None => (asked, STORE),
+        };
+        let Some((lent, _)) = store.split_at_mut_checked(len) else {
+            bail!("the store has fewer than {len} terms");
+        };
+        let said = call(rt, &mut diagram, lent, asked)?;
+        if said.as_str() != wanted {
+            bail!("{asked} is answered {said}, and not {wanted}");
+        }
+        made = made.saturating_add(1);
+    }
+    Ok(made)
+}

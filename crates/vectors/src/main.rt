@@ -1,0 +1,75 @@
+// Reads vectors from standard input, model files each with what is to be printed of it, and compares what `analyse` says.
+#![tactic(auto)]
+
+mod entries;
+
+use anyhow::bail;
+use entries::Entry;
+use files::analysis::analyse;
+use std::io::Read;
+
+// What is printed of the files: reports and faults, so many of each.
+#[derive(Clone, Copy)]
+struct Tally {
+    reports: usize,
+    faults: usize,
+}
+
+// Longer than the longest report.
+const ROOM: usize = 3400;
+
+// What the program `analyse` prints of a model file.
+fn printed(rt: &HostRuntime, model: &[u8]) -> anyhow::Result<(bool, String)> {
+    let mut output = [0u8; ROOM];
+    match analyse(model, &mut output) {
+        Ok(len) => {
+            let Some(report) = output.get(..len) else {
+                bail!("a report of {len} bytes is longer than the output");
+            };
+            let text = str::from_utf8(report)?;
+            Ok((true, format!(in rt.alloc(); "{text}")?))
+        }
+        Err(fault) => Ok((false, format!(in rt.alloc(); "{fault}\n")?)),
+    }
+}
+
+// Compares one entry, and answers whether its file has a report.
+fn compare(rt: &HostRuntime, number: usize, entry: Entry<'_>) -> anyhow::Result<bool> {
+    let (reported, said) = printed(rt, entry.model)?;
+    let wanted = str::from_utf8(entry.printed)?;
+    if said.as_str() != wanted {
+        println!(rt; "analyse says:\n{said}\nthe other program says:\n{wanted}")?;
+        bail!("file {number} differs");
+    }
+    Ok(reported)
+}
+
+fn main(rt: HostRuntime) -> anyhow::Result<()> {
+    let mut bytes = Vec::new(rt.alloc());
+    rt.reader().read_to_end(&mut bytes)?;
+    let mut rest = bytes.as_slice();
+    let mut tally = Tally {
+        reports: 0,
+        faults: 0,
+    };
+    for number in 0..bytes.len() {
+        if rest.is_empty() {
+            break;
+        }
+        let Some((entry, after)) = entries::next(rest) else {
+            bail!("the vectors end within entry {number}");
+        };
+        if compare(&rt, number, entry)? {
+            tally.reports += 1;
+        } else {
+            tally.faults += 1;
+        }
+        rest = after;
+    }
+    let Tally { reports, faults } = tally;
+    let files = reports + faults;
+    println!(rt;
+        "{files} files, {reports} reports, {faults} faults: all as the other program says"
+    )?;
+    Ok(())
+}
