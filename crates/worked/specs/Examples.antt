@@ -2,16 +2,13 @@
 use Rattle.std.specs.Prelude.{◌≡◌, ℕ, List, [], ◌∷◌}
 use Rattle.kinds.specs.Capped.{top32}
 use Rattle.kinds.specs.Named.{Flow, Delay, FaultSet, FirstFault, Parts, Scenarios}
-use Rattle.kinds.specs.Words.{zero_word, capped_word, smaller, word_sum, word_product, intersection}
-use Rattle.kinds.specs.Flows.{flow_bridge}
-use Rattle.kinds.specs.Delays.{delay_bridge}
-use Rattle.kinds.specs.FaultSets.{faults_bridge}
-use Rattle.kinds.specs.FirstFaults.{first_series, first_parallel}
+use Rattle.kinds.specs.Words.{capped_word}
 use Rattle.kinds.specs.Outs.{out_bridge}
 use Rattle.kinds.specs.declared.values.OrOut.{OrOut}
 use Rattle.kinds.specs.declared.values.OrOut.TheVariants.{Out, Working}
 use Rattle.kinds.specs.contracts.flow.FlowPerformance.TheImpl as flow_kind
 use Rattle.kinds.specs.contracts.delay.DelayPerformance.TheImpl as delay_kind
+use Rattle.kinds.specs.contracts.fault_set.FaultSetPerformance.TheImpl as fault_set_kind
 use Rattle.kinds.specs.contracts.first_fault.FirstFaultPerformance.TheImpl as first_kind
 use Rattle.kinds.specs.contracts.parts.PartsWeight.TheImpl as parts_weight
 use Rattle.kinds.specs.contracts.scenarios.ScenariosWeight.TheImpl as scenarios_weight
@@ -86,27 +83,29 @@ combinations_of = enumeration flow_kind.ghosts parts_weight.ghosts states
 abbrev sure : {P : Type 0} → P → Term P Parts
 sure p = record { performance = p; weight = parts 1 }
 
+-- each of these is what an operation of the kind, or of the weight, answers
 pub record Examples : Type 0 where
-  pub flows_in_series : smaller (flow 3) (flow 5) ≡ flow 3
-  pub flows_in_parallel : word_sum (flow 3) (flow 5) ≡ flow 8
-  pub flow_stops_at_the_top : word_sum (flow top32) (flow 1) ≡ flow top32
-  pub flow_over_a_bridge : flow_bridge (flow 1) (flow 4) (flow 10) (flow 2) (flow 9) ≡ flow 5
-  pub delay_over_a_bridge : delay_bridge (delay 1) (delay 4) (delay 10) (delay 2) (delay 9) ≡ delay 3
-  pub faults_over_a_bridge : faults_bridge (faults 1) (faults 2) (faults 0) (faults 4) (faults 1) ≡ faults 0
-  pub healthy_then_faulty : first_series (fault 0) (fault 7) ≡ fault 7
-  pub both_faulty : first_parallel (fault 4) (fault 7) ≡ fault 4
-  pub one_healthy : first_parallel (fault 4) (fault 0) ≡ fault 0
-  pub an_arm_out : out_bridge smaller word_sum flow_bridge Out (service 4) (service 3) (service 9) (service 2) ≡ service 4
+  pub flows_in_series : flow_kind.ghosts.series (flow 3) (flow 5) ≡ flow 3
+  pub flows_in_parallel : flow_kind.ghosts.parallel (flow 3) (flow 5) ≡ flow 8
+  pub flow_stops_at_the_top : flow_kind.ghosts.parallel (flow top32) (flow 1) ≡ flow top32
+  pub flow_over_a_bridge : flow_kind.ghosts.bridge (flow 1) (flow 4) (flow 10) (flow 2) (flow 9) ≡ flow 5
+  pub delay_over_a_bridge : delay_kind.ghosts.bridge (delay 1) (delay 4) (delay 10) (delay 2) (delay 9) ≡ delay 3
+  pub faults_over_a_bridge : fault_set_kind.ghosts.bridge (faults 1) (faults 2) (faults 0) (faults 4) (faults 1) ≡ faults 0
+  pub healthy_then_faulty : first_kind.ghosts.series (fault 0) (fault 7) ≡ fault 7
+  pub both_faulty : first_kind.ghosts.parallel (fault 4) (fault 7) ≡ fault 4
+  pub one_healthy : first_kind.ghosts.parallel (fault 4) (fault 0) ≡ fault 0
+  pub an_arm_out :
+      out_bridge flow_kind.ghosts.series flow_kind.ghosts.parallel flow_kind.ghosts.bridge Out (service 4) (service 3) (service 9) (service 2) ≡ service 4
   pub likes_are_added : HasRow (3 at 4 ∷ 0 at 1 ∷ 3 at 5 ∷ []) (0 at 1 ∷ 3 at 9 ∷ [])
   pub nothing_is_left_out : HasRow (3 at 0 ∷ 0 at 2 ∷ []) (0 at 2 ∷ [])
-  pub parts_stop_at_the_top : word_product (parts 2147483648) (parts 2) ≡ parts top32
-  pub scenarios_apart : intersection (scenarios 3) (scenarios 12) ≡ zero_word
+  pub parts_stop_at_the_top : parts_weight.ghosts.product (parts 2147483648) (parts 2) ≡ parts top32
+  pub scenarios_apart : scenarios_weight.ghosts.product (scenarios 3) (scenarios 12) ≡ scenarios_weight.ghosts.nothing
   pub no_term_of_scenarios_apart :
       RowOf flow_kind.ghosts scenarios_weight.ghosts
-      (combinations scenarios_weight.ghosts smaller (record { performance = flow 1; weight = scenarios 3 } ∷ []) (record { performance = flow 1; weight = scenarios 12 } ∷ []))
+      (combinations scenarios_weight.ghosts flow_kind.ghosts.series (record { performance = flow 1; weight = scenarios 3 } ∷ []) (record { performance = flow 1; weight = scenarios 12 } ∷ []))
       []
-  pub pumps_in_parallel : HasRow (combinations parts_weight.ghosts word_sum pump_a pump_b) pumps
-  pub plant_in_series : HasRow (combinations parts_weight.ghosts smaller pumps pipe) plant
+  pub pumps_in_parallel : HasRow (combinations parts_weight.ghosts flow_kind.ghosts.parallel pump_a pump_b) pumps
+  pub plant_in_series : HasRow (combinations parts_weight.ghosts flow_kind.ghosts.series pumps pipe) plant
   pub need_of_three : met_of flow_kind.ghosts parts_weight.ghosts (flow 3) plant ≡ parts 630
   pub need_of_five : met_of flow_kind.ghosts parts_weight.ghosts (flow 5) plant ≡ parts 0
   pub everything : total_of parts_weight.ghosts plant ≡ parts 1000

@@ -1,0 +1,50 @@
+-- The plant as it is drawn, step by step; for private functions.
+use Rattle.std.specs.Prelude.{◌≡◌, ℕ, List, [], ◌∷◌, length, Result, Ok, Err}
+use Rattle.terms.specs.declared.term.Term.{Term}
+use Rattle.terms.specs.declared.term.Way.TheVariants.{Series, Parallel}
+use Rattle.diagram.specs.declared.diagram.Diagram.{Diagram}
+use Rattle.diagram.specs.declared.refusal.Refusal.{Refusal}
+use Rattle.diagram.specs.declared.refusal.Refusal.TheVariants.{WrongStates}
+use Rattle.diagram.specs.Refusals.{Asked}
+use Rattle.diagram.specs.Nodes.{EnoughStates}
+use Rattle.diagram.specs.Histories.{Making, added, joined_from, collecting, number, Entry, History}
+use Rattle.diagram.specs.Runs.{Run}
+use Rattle.files.specs.Drawn.{history_of}
+use Rattle.grades.specs.contracts.grading.GradePerformance.TheImpl.{ghosts as grades}
+use Rattle.grades.specs.contracts.batching.BatchesWeight.TheImpl.{ghosts as batches}
+use Rattle.grades.specs.declared.batches.Batches.{Batches}
+use Rattle.grades.specs.declared.grade.Grade.{Grade}
+use Rattle.grades.specs.declared.share.Nodes.{Nodes}
+
+-- the parts' numbers, as they are made
+abbrev pub in_order : Nodes
+in_order = record { first = 0; second = 1; finishing = 2 }
+
+-- a node was collected, and its row had so many terms
+abbrev pub collected : ℕ → ℕ → ℕ → Entry Grade Batches
+collected lent k size = record { call = collecting k; lent = lent; reply = Ok (number size) }
+
+module _ (first second finishing : List (Term Grade Batches)) where
+  -- the newest node first
+  abbrev pub parts_made : List (Making Grade Batches)
+  parts_made = added finishing ∷ added second ∷ added first ∷ []
+
+  abbrev pub nodes_made : List (Making Grade Batches)
+  nodes_made = joined_from Series (3 ∷ 2 ∷ []) ∷ joined_from Parallel (0 ∷ 1 ∷ []) ∷ parts_made
+
+  -- the calls so far, the newest first, once both joined nodes are collected
+  abbrev pub worked_out : ℕ → ℕ → ℕ → History Grade Batches
+  worked_out lent m n = collected lent 4 n ∷ collected lent 3 m ∷ history_of lent nodes_made
+
+  module _ (lent : ℕ) (d : Diagram Grade Batches) (s : List (Term Grade Batches)) where
+    -- the parts are added, or the first that has too few states or too many is refused
+    abbrev pub PartsAdded : Result Nodes Refusal → Type 0
+    PartsAdded r =
+        Asked (EnoughStates (length first)) (r ≡ Err WrongStates)
+        (Asked (EnoughStates (length second)) (r ≡ Err WrongStates)
+        (Asked (EnoughStates (length finishing)) (r ≡ Err WrongStates)
+        ((r ≡ Ok in_order) × Run grades batches (history_of lent parts_made) d s)))
+
+    -- the parts are joined and worked out, as node 4
+    abbrev pub WorkedOut : Result ℕ Refusal → Type 0
+    WorkedOut r = (r ≡ Ok 4) × (m : ℕ) × (n : ℕ) × Run grades batches (worked_out lent m n) d s

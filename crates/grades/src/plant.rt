@@ -1,0 +1,102 @@
+// A plant drawn by calls: two lines in parallel, and then a finishing step.
+use crate::answers::{refused, show, told};
+use crate::batches::Batches;
+use crate::grade::Grade;
+use crate::numbered::{grade, state};
+use crate::share::{State, share_of_grade};
+use diagram::diagram::Diagram;
+use diagram::refusal::Refusal;
+use terms::term::Way;
+
+// The states of the parts, and the grade that is asked for.
+#[derive(Clone, Copy)]
+struct States {
+    first: [State; 2],
+    second: [State; 2],
+    finishing: [State; 2],
+    asked: Grade,
+}
+
+fn given() -> anyhow::Result<States> {
+    Ok(States {
+        first: [state(3, 2)?, state(7, 8)?],
+        second: [state(5, 6)?, state(8, 4)?],
+        finishing: [state(4, 1)?, state(9, 9)?],
+        asked: grade(7)?,
+    })
+}
+
+// The plant in a diagram, and the numbers of its first line, of both lines, and of the whole.
+#[derive(Drop)]
+struct Plant {
+    diagram: Diagram<Grade, Batches>,
+    first: usize,
+    lines: usize,
+    whole: usize,
+}
+
+impl Plant {
+    fn draw(parts: &States, store: &mut [State]) -> Result<Plant, Refusal> {
+        let mut diagram = Diagram::new(store)?;
+        let first = diagram.add(store, &parts.first)?;
+        let second = diagram.add(store, &parts.second)?;
+        let finishing = diagram.add(store, &parts.finishing)?;
+        let lines = diagram.join(store, Way::Parallel, &[first, second])?;
+        let whole = diagram.join(store, Way::Series, &[lines, finishing])?;
+        Ok(Plant {
+            diagram,
+            first,
+            lines,
+            whole,
+        })
+    }
+
+    // Works out the lines, and then the whole.
+    fn collect(&mut self, store: &mut [State]) -> Result<(), Refusal> {
+        self.diagram.collect(store, self.lines)?;
+        self.diagram.collect(store, self.whole)?;
+        Ok(())
+    }
+}
+
+pub fn by_calls(rt: &HostRuntime) -> anyhow::Result<()> {
+    let parts = given()?;
+    let mut store = [state(0, 0)?; 3200];
+    let mut plant = told(Plant::draw(&parts, &mut store))?;
+    told(plant.collect(&mut store))?;
+    rt.println("Two lines in parallel make:")?;
+    show(rt, &plant.diagram, &store, plant.lines, parts.asked)?;
+    rt.println("After the finishing step:")?;
+    show(rt, &plant.diagram, &store, plant.whole, parts.asked)?;
+    at_once(rt, &parts)?;
+    new_tools(rt, &mut plant, &mut store, parts.asked)
+}
+
+// The same in one call.
+fn at_once(rt: &HostRuntime, parts: &States) -> anyhow::Result<()> {
+    let mut store = [state(0, 0)?; 3200];
+    let (first, second, finishing) = (&parts.first, &parts.second, &parts.finishing);
+    let share = share_of_grade(first, second, finishing, parts.asked, &mut store);
+    let (met, all) = told(share)?;
+    println!(rt; "In one call: {met} of {all} batches")?;
+    Ok(())
+}
+
+// The first line gets new tools: what is above it is stale until it is collected again.
+fn new_tools(
+    rt: &HostRuntime,
+    plant: &mut Plant,
+    store: &mut [State],
+    asked: Grade,
+) -> anyhow::Result<()> {
+    let states = [state(6, 1)?, state(9, 9)?];
+    told(plant.diagram.restate(store, plant.first, &states))?;
+    rt.println("The first line gets new tools.")?;
+    let stale = refused(plant.diagram.total(store, plant.whole))?;
+    println!(rt; "Asking the plant is refused by question {stale}")?;
+    let early = refused(plant.diagram.collect(store, plant.whole))?;
+    println!(rt; "Working it out before the lines is refused by question {early}")?;
+    told(plant.collect(store))?;
+    rt.println("Worked out again:")?;
+    show(rt, &plant.diagram, store, plant.whole, asked)
+}

@@ -1,0 +1,87 @@
+// What of a plant's products is at least of a grade: what follows for its caller from the promise over all runs.
+ghost use Rattle.std.specs.Prelude.{◌≡◌, ◌≤◌, List, Ok, length};
+ghost use Rattle.terms.specs.declared.term.Term.{Term};
+ghost use Rattle.diagram.specs.Calls.{Made};
+ghost use Rattle.diagram.specs.Runs.{AnswersRight, Run};
+ghost use Rattle.diagram.specs.Shown.{records};
+ghost use Rattle.files.specs.Drawn.{history_of};
+ghost use Rattle.grades.specs.declared.batches.Batches.{Batches};
+ghost use Rattle.grades.specs.declared.grade.Grade.{Grade};
+ghost use Rattle.grades.specs.Shares.{ShareOf};
+ghost use Rattle.grades.specs.Steps.{in_order, parts_made, PartsAdded, WorkedOut};
+
+use crate::batches::Batches;
+use crate::grade::Grade;
+use diagram::diagram::Diagram;
+use diagram::refusal::Refusal;
+use kinds::performance::Performance;
+use kinds::weight::Weight;
+use terms::drawings::combinations_go_child_by_child;
+use terms::term::{Term, Way};
+use terms::theorems::summing_keeps_distributions;
+
+// So many batches of a grade.
+pub type State = Term<Grade, Batches>;
+
+// The numbers of a plant's parts.
+#[derive(Clone, Copy)]
+struct Nodes {
+    first: usize,
+    second: usize,
+    finishing: usize,
+}
+
+// Two lines in parallel and then a finishing step: how many batches are of this grade or better, and how many there are.
+pub fn share_of_grade(
+    first: &[State],
+    second: &[State],
+    finishing: &[State],
+    grade: Grade,
+    store: &mut [State],
+) -> Result<(Batches, Batches), Refusal>
+    ensures { ShareOf first.now second.now finishing.now grade (length store.old) result }
+{
+    combinations_go_child_by_child::<Grade, Batches>();
+    summing_keeps_distributions::<Grade, Batches>();
+    let mut plant = Diagram::new(store)?;
+    let parts = add_parts(&mut plant, first, second, finishing, store)?;
+    let whole = work_out(&mut plant, parts, store)?;
+    plant.availability(store, whole, grade)
+}
+
+// The two lines and the finishing step, added to a new diagram.
+fn add_parts(
+    plant: &mut Diagram<Grade, Batches>,
+    first: &[State],
+    second: &[State],
+    finishing: &[State],
+    store: &mut [State],
+) -> Result<Nodes, Refusal>
+    requires new { Made records store.old (Ok plant.old) }
+    requires right { AnswersRight ⟦<Grade as Performance>⟧ ⟦<Batches as Weight>⟧ }
+    ensures { PartsAdded first.now second.now finishing.now (length store.old) plant.new store.new result }
+{
+    Ok(Nodes {
+        first: plant.add(store, first)?,
+        second: plant.add(store, second)?,
+        finishing: plant.add(store, finishing)?,
+    })
+}
+
+// The lines in parallel, then the finishing step in series, worked out.
+fn work_out(
+    plant: &mut Diagram<Grade, Batches>,
+    parts: Nodes,
+    store: &mut [State],
+) -> Result<usize, Refusal>
+    requires roomy { 3200 ≤ length store.old }
+    requires right { AnswersRight ⟦<Grade as Performance>⟧ ⟦<Batches as Weight>⟧ }
+    requires parts { parts ≡ in_order }
+    ensures { (first second finishing : List (Term Grade Batches)) → Run ⟦<Grade as Performance>⟧ ⟦<Batches as Weight>⟧ (history_of (length store.old) (parts_made first second finishing)) plant.old store.old → WorkedOut first second finishing (length store.old) plant.new store.new result }
+{
+    let lines = plant.join(store, Way::Parallel, &[parts.first, parts.second])?;
+    let whole = plant.join(store, Way::Series, &[lines, parts.finishing])?;
+    plant.collect(store, lines)?;
+    plant.collect(store, whole)?;
+    Ok(whole)
+}
