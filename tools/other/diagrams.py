@@ -59,9 +59,6 @@ class Diagram:
     def row(self, k):
         return row_of_states(self.weight, self.states[k]) if self.is_part(k) else self.running(k)[-1]
 
-    def sorted_row(self, k):
-        return sorted(self.row(k).items())
-
     # The calls
 
     def take(self, states, k):

@@ -175,7 +175,7 @@ def distinct_states(rng, plant, count):
             high = rng.randint(0, 10**9)
         elif plant.model in WITH_OUT and rng.random() < 0.02:
             high, low = 1, 0
-        found[high, low] = rng.choice([TOP32 if plant.model == SETS else 1, 1])
+        found[high, low] = rng.choice([TOP32, 1]) if plant.model == SETS else 1
     return [(*words, w) for words, w in found.items()]
 
 

@@ -1,5 +1,5 @@
 // Reads sequences of a diagram's calls from standard input, makes each call, and compares what it is answered with what stands
-// after it. tools/other/README.md tells the form.
+// after it. tools/other/sequences.py tells the form.
 #![tactic(auto)]
 
 use grade::Grade;

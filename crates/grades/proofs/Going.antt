@@ -21,6 +21,10 @@ use Rattle.diagram.specs.RightAnswers.{RightAnswer, ArmsShort, ResultsShort}
 use Rattle.diagram.specs.Runs.{told, Performs, Run, next, AnswersRight}
 
 -- a question that is answered yes
+
+pub yes : {q refused rest : Type 0} → q → rest → Asked q refused rest
+yes q r = inl (q, r)
+
 granted : {q refused rest : Type 0} → q → Asked q refused rest → rest
 granted q (inl x) = x.1
 granted q (inr x) = absurd (x.0 q)

@@ -1,5 +1,5 @@
 -- The plant of two lines and a finishing step: its calls, what it makes, and that no row of grades is long.
-use Rattle.std.proofs.Common.{◌≡◌, ◌≢◌, ℕ, ◌+◌, ◌<◌, ◌≤◌, List, [], ◌∷◌, length, Some, Result, Ok, Err, Less, sym, ◌∙◌, ap, refl, subst, inl, inr, arith}
+use Rattle.std.proofs.Common.{◌≡◌, ℕ, ◌+◌, ◌<◌, ◌≤◌, List, [], ◌∷◌, length, Result, Ok, Less, ◌∙◌, refl, subst, inl, arith}
 use Rattle.std.proofs.lemmas.Bool.Decides.{nat_tests}
 use Rattle.std.specs.Ordering.{nat_cmp}
 use Rattle.terms.specs.declared.term.Term.{Term}
@@ -16,7 +16,7 @@ use Rattle.diagram.specs.declared.node.Form.TheVariants.{Joined}
 use Rattle.diagram.specs.declared.diagram.Diagram.{Diagram}
 use Rattle.diagram.specs.Shown.{records}
 use Rattle.diagram.specs.Calls.{Made, Added, Joins, Collected, TellsAvailability}
-use Rattle.diagram.specs.Histories.{added, joined_from, Making, History, Unused, states_of}
+use Rattle.diagram.specs.Histories.{added, joined_from, History, Unused, states_of}
 use Rattle.diagram.specs.Runs.{Run, start, AnswersRight}
 use Rattle.files.specs.Drawn.{history_of}
 use Rattle.grades.specs.contracts.grading.GradePerformance.TheImpl.{ghosts as grades}
@@ -26,8 +26,8 @@ use Rattle.grades.specs.declared.grade.Grade.{Grade}
 use Rattle.grades.specs.declared.share.Nodes.{Nodes}
 use Rattle.grades.specs.Grades.{lower, higher}
 use Rattle.grades.specs.Shares.{products}
-use Rattle.grades.specs.Steps.{in_order, collected, parts_made, nodes_made, worked_out, PartsAdded, WorkedOut}
-use Rattle.grades.proofs.Going.{given, no_one, neither, unused_on, just_collected, after_adding, after_joining, after_collecting, after_asking}
+use Rattle.grades.specs.Steps.{in_order, collected, parts_made, nodes_made, worked_out, PartsAdded}
+use Rattle.grades.proofs.Going.{yes, given, no_one, neither, unused_on, just_collected, after_adding, after_joining, after_collecting, after_asking}
 
 abbrev Terms : Type 0
 Terms = List (Term Grade Batches)
@@ -91,7 +91,7 @@ module _ (promise : AnswersRight grades batches) where
       let one = after_adding grades batches promise lent roomy [] d₀ s₀ (start new) refl first d₁ s₁ a x₁ in
       let two = after_adding grades batches promise lent roomy _ d₁ s₁ one.2 long₁ second d₂ s₂ b x₂ in
       let three = after_adding grades batches promise lent roomy _ d₂ s₂ two.2 (long₂ ∙ long₁) finishing d₃ s₃ c x₃ in
-      inl (one.0, inl (two.0, inl (three.0, ((λ i. Ok (record { first = one.1 i; second = two.1 i; finishing = three.1 i })), three.2))))
+      yes one.0 (yes two.0 (yes three.0 ((λ i. Ok (record { first = one.1 i; second = two.1 i; finishing = three.1 i })), three.2)))
 
   -- none of the other calls is refused
   module _ {first second finishing : Terms} {lent : ℕ} (roomy : 3200 ≤ lent) where

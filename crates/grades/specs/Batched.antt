@@ -1,5 +1,5 @@
 -- Batches are counted up to a top: what is more counts as the top.
-use Rattle.std.specs.Prelude.{ℕ, ◌+◌, ◌*◌, ◌≤◌, Bool, ◌==◌}
+use Rattle.std.specs.Prelude.{ℕ, ◌+◌, ◌*◌, Bool, ◌==◌}
 use Rattle.kinds.specs.Capped.{capped}
 use Rattle.kinds.specs.Caps.{at_most}
 use Rattle.grades.specs.declared.batches.Batches.{Batches}

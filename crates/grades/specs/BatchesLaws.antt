@@ -1,6 +1,6 @@
--- Counts of batches are equal where their numbers are, and so the laws of capped numbers hold of them.
-use Rattle.std.specs.Prelude.{◌≡◌, ℕ, ◌^◌, ◌<◌, true, refl}
-use Rattle.std.proofs.Common.{ap, arith}
+-- Counts of batches are equal where their numbers are, and so the laws of capped numbers hold of them. (Other laws are found by search.)
+use Rattle.std.specs.Prelude.{◌≡◌, true, refl}
+use Rattle.std.proofs.Common.{ap}
 use Rattle.std.proofs.lemmas.Bool.{eqb-true}
 use Rattle.kinds.specs.Caps as caps
 use Rattle.kinds.specs.WordLaws.{holds}
@@ -23,9 +23,6 @@ only_none a h = batches_same _ _ (eqb-true a.count 0 h)
 pub sum_assoc : (a b c : Batches) → batches_sum (batches_sum a b) c ≡ batches_sum a (batches_sum b c)
 sum_assoc a b c = batches_same _ _ (caps.sum_assoc top16 a.count b.count c.count)
 
-pub sum_comm : (a b : Batches) → batches_sum a b ≡ batches_sum b a
-sum_comm a b = batches_same _ _ (caps.sum_comm top16 a.count b.count)
-
 pub sum_none : (a : Batches) → batches_sum no_batches a ≡ a
 sum_none a = batches_same _ _ (caps.sum_zero top16 a.count a.fits)
 
@@ -37,16 +34,8 @@ sum_is_none a b h =
 pub product_assoc : (a b c : Batches) → batches_product (batches_product a b) c ≡ batches_product a (batches_product b c)
 product_assoc a b c = batches_same _ _ (caps.product_assoc top16 a.count b.count c.count)
 
-pub product_comm : (a b : Batches) → batches_product a b ≡ batches_product b a
-product_comm a b = batches_same _ _ (caps.product_comm top16 a.count b.count)
-
 pub product_sum : (a b c : Batches) → batches_product a (batches_sum b c) ≡ batches_sum (batches_product a b) (batches_product a c)
 product_sum a b c = batches_same _ _ (caps.product_sum top16 a.count b.count c.count)
 
 pub product_none : (a : Batches) → batches_product no_batches a ≡ no_batches
 product_none a = batches_same _ _ (caps.product_zero top16 a.count)
-
--- as a word of a file
-
-pub batches_fit : (b : Batches) → how_many b < 2 ^ 32
-batches_fit b = omega (arith, b.fits)

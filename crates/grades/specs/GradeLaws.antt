@@ -1,10 +1,8 @@
--- Grades are equal where their numbers are, and so the laws of numbers hold of grades.
-use Rattle.std.specs.Prelude.{◌≡◌, ℕ, ◌^◌, ◌<◌, ◌≤◌, max, refl}
-use Rattle.std.specs.declared.cmp.Ordering.TheVariants.{Less, Equal}
-use Rattle.std.specs.Ordering.{nat_cmp, ordering_reverse}
+-- Grades are equal where their numbers are, and so the laws of numbers hold of grades. (Other laws are found by search.)
+use Rattle.std.specs.Prelude.{◌≡◌, ℕ, max, refl}
+use Rattle.std.specs.declared.cmp.Ordering.TheVariants.{Equal}
 use Rattle.std.proofs.Math.Nat.{min_comm, max_comm}
 use Rattle.std.proofs.Common.{arith}
-use Rattle.std.proofs.lemmas.Cmp.{nat_cmp_total, tied_itself}
 use Rattle.kinds.specs.WordLaws.{holds, nat_equal, min_assoc}
 use Rattle.grades.specs.Bounded.{NumbersTo, bound_path}
 use Rattle.grades.specs.Grades.{grade_number, grade_compared, lower, higher}
@@ -22,15 +20,6 @@ ten_grades = record {
 pub compared_same : (a b : Grade) → grade_compared a b ≡ Equal → a ≡ b
 compared_same a b h = grade_same a b (nat_equal a.digit b.digit h)
 
-pub compared_itself : (a : Grade) → grade_compared a a ≡ Equal
-compared_itself a = tied_itself nat_cmp_total a.digit
-
-pub compared_swapped : (a b : Grade) → grade_compared b a ≡ ordering_reverse (grade_compared a b)
-compared_swapped a b = nat_cmp_total.antisymm b.digit a.digit
-
-pub compared_less : (a b c : Grade) → grade_compared a b ≡ Less → grade_compared b c ≡ Less → grade_compared a c ≡ Less
-compared_less a b c = nat_cmp_total.trans a.digit b.digit c.digit
-
 pub lower_assoc : (a b c : Grade) → lower (lower a b) c ≡ lower a (lower b c)
 lower_assoc a b c = grade_same _ _ (min_assoc a.digit b.digit c.digit)
 
@@ -45,11 +34,3 @@ higher_assoc a b c = grade_same _ _ (max_assoc a.digit b.digit c.digit)
 
 pub higher_comm : (a b : Grade) → higher a b ≡ higher b a
 higher_comm a b = grade_same _ _ (max_comm a.digit b.digit)
-
--- as words of a file
-
-pub grade_fits : (g : Grade) → (0 < 2 ^ 32) × (grade_number g < 2 ^ 32)
-grade_fits g = (omega arith, omega (arith, g.fits))
-
-pub grade_tells : (a b : Grade) → ◌≡◌ {A = ℕ} 0 0 → grade_number a ≡ grade_number b → a ≡ b
-grade_tells a b h l = grade_same a b l

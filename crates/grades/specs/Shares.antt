@@ -18,7 +18,8 @@ module _ (first second finishing : List (Term Grade Batches)) where
   abbrev pub products : List (Term Grade Batches)
   products = combinations batches lower (combinations batches higher first second) finishing
 
-  -- r is how many batches are of this grade or better, and how many there are; or the first question with a no is told
+  -- r is how many batches are of this grade or better, and how many there are; or the first question with a no is told. No result is too
+  -- long: there are ten grades, and a row has one term of each at most.
   abbrev pub ShareOf : Grade → ℕ → Result (Batches × Batches) Refusal → Type 0
   ShareOf grade lent r =
       Asked (3200 ≤ lent) (r ≡ Err ShortStore)

@@ -1,7 +1,7 @@
 // Batches as a kind of weight: how many batches of a state there are in all, counted up to the top.
 ghost use Rattle.grades.specs.Batched.{no_batches, batches_sum, batches_product, are_none};
-ghost use Rattle.grades.specs.BatchesLaws.{only_none, sum_assoc, sum_comm, sum_none, sum_is_none, product_assoc, product_comm, product_sum, product_none};
-ghost use Rattle.std.proofs.Common.{refl};
+ghost use Rattle.grades.specs.BatchesLaws.{only_none, sum_assoc, sum_none, sum_is_none, product_assoc, product_sum, product_none};
+ghost use Rattle.std.proofs.Common.{rules};
 
 use crate::batches::Batches;
 use kinds::weight::Weight;
@@ -15,13 +15,13 @@ impl Weight for Batches {
 
     ghost is_nothing = { are_none };
 
-    ghost test_accepts_nothing = { refl };
+    ghost test_accepts_nothing = { Prim.search rules };
 
     ghost test_accepts_only_nothing = { only_none };
 
     ghost sum_associative = { sum_assoc };
 
-    ghost sum_commutative = { sum_comm };
+    ghost sum_commutative = { Prim.search rules };
 
     ghost sum_neutral = { sum_none };
 
@@ -29,7 +29,7 @@ impl Weight for Batches {
 
     ghost product_associative = { product_assoc };
 
-    ghost product_commutative = { product_comm };
+    ghost product_commutative = { Prim.search rules };
 
     ghost product_distributes = { product_sum };
 

@@ -1,7 +1,8 @@
 // Grades as a kind of performance: a chain of steps is as good as its worst, and of parallel lines the better counts.
 ghost use Rattle.std.specs.Prelude.{false};
 ghost use Rattle.grades.specs.Grades.{grade_compared, lower, higher, grade_bridge, grade_meets};
-ghost use Rattle.grades.specs.GradeLaws.{compared_same, compared_itself, compared_swapped, compared_less, lower_assoc, lower_comm, higher_assoc, higher_comm};
+ghost use Rattle.grades.specs.GradeLaws.{compared_same, lower_assoc, lower_comm, higher_assoc, higher_comm};
+ghost use Rattle.std.proofs.Common.{rules};
 
 use crate::grade::Grade;
 use kinds::performance::Performance;
@@ -28,11 +29,11 @@ impl Performance for Grade {
 
     ghost same_identical = { compared_same };
 
-    ghost identical_same = { compared_itself };
+    ghost identical_same = { Prim.search rules };
 
-    ghost swapped = { compared_swapped };
+    ghost swapped = { Prim.search rules };
 
-    ghost less_transitive = { compared_less };
+    ghost less_transitive = { Prim.search rules };
 
     ghost series_associative = { lower_assoc };
 

@@ -1,8 +1,9 @@
 // Grades and batches as words of a model file.
 ghost use Rattle.grades.specs.Grades.{grade_number};
-ghost use Rattle.grades.specs.GradeLaws.{grade_fits, grade_tells};
+ghost use Rattle.grades.specs.GradeLaws.{grade_same};
 ghost use Rattle.grades.specs.Batched.{how_many};
-ghost use Rattle.grades.specs.BatchesLaws.{batches_fit, batches_same};
+ghost use Rattle.grades.specs.BatchesLaws.{batches_same};
+ghost use Rattle.std.proofs.Common.{rules};
 
 use crate::batches::Batches;
 use crate::grade::Grade;
@@ -14,9 +15,9 @@ impl FilePerformance for Grade {
 
     ghost low = { grade_number };
 
-    ghost words_fit = { grade_fits };
+    ghost words_fit = { Prim.search rules };
 
-    ghost words_tell = { grade_tells };
+    ghost words_tell = { λ a b _ same. grade_same a b same };
 
     fn of_words(first: u32, second: u32) -> Option<Grade> {
         if first != 0 {
@@ -40,7 +41,7 @@ impl FilePerformance for Grade {
 impl FileWeight for Batches {
     ghost word = { how_many };
 
-    ghost word_fits = { batches_fit };
+    ghost word_fits = { Prim.search rules };
 
     ghost word_tells = { batches_same };
 
