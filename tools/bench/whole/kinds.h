@@ -1,0 +1,110 @@
+/* The kinds of performance and of weight in plain C, as docs/KINDS.md tells them. */
+#ifndef KINDS_H
+#define KINDS_H
+
+#include <stdint.h>
+
+#define TOP 4294967295u
+
+typedef uint32_t u32;
+typedef uint64_t u64;
+
+static inline u32 cap(u64 n) { return n < TOP ? (u32)n : TOP; }
+static inline u32 least(u32 a, u32 b) { return a < b ? a : b; }
+static inline u32 least4(u32 a, u32 b, u32 c, u32 d) { return least(least(a, b), least(c, d)); }
+static inline int order(u32 a, u32 b) { return a < b ? -1 : a > b; }
+
+/* kinds that are one word */
+#define WORD(K)                                                        \
+  typedef struct { u32 v; } K;                                         \
+  static inline int order_##K(K a, K b) { return order(a.v, b.v); }    \
+  static inline K K##_of(const u32 *w) { return (K){w[1]}; }           \
+  static inline void K##_to(K p, u32 *w) { w[0] = 0; w[1] = p.v; }
+
+WORD(Flow)
+static inline Flow series_Flow(Flow a, Flow b) { return (Flow){least(a.v, b.v)}; }
+static inline Flow parallel_Flow(Flow a, Flow b) { return (Flow){cap((u64)a.v + b.v)}; }
+static inline Flow bridge_Flow(Flow a, Flow b, Flow c, Flow d, Flow e) {
+  return (Flow){least4(cap((u64)a.v + b.v), cap((u64)d.v + e.v), cap((u64)a.v + c.v + e.v), cap((u64)b.v + c.v + d.v))};
+}
+static inline int meets_Flow(Flow v, Flow w) { return v.v >= w.v; }
+
+WORD(Delay)
+static inline Delay series_Delay(Delay a, Delay b) { return (Delay){cap((u64)a.v + b.v)}; }
+static inline Delay parallel_Delay(Delay a, Delay b) { return (Delay){least(a.v, b.v)}; }
+static inline Delay bridge_Delay(Delay a, Delay b, Delay c, Delay d, Delay e) {
+  return (Delay){least4(cap((u64)a.v + d.v), cap((u64)b.v + e.v), cap((u64)a.v + c.v + e.v), cap((u64)b.v + c.v + d.v))};
+}
+static inline int meets_Delay(Delay v, Delay w) { return v.v <= w.v && v.v != TOP; }
+
+WORD(FaultSet)
+static inline FaultSet series_FaultSet(FaultSet a, FaultSet b) { return (FaultSet){a.v | b.v}; }
+static inline FaultSet parallel_FaultSet(FaultSet a, FaultSet b) { return (FaultSet){a.v & b.v}; }
+static inline FaultSet bridge_FaultSet(FaultSet a, FaultSet b, FaultSet c, FaultSet d, FaultSet e) {
+  return (FaultSet){(a.v | d.v) & (b.v | e.v) & (a.v | c.v | e.v) & (b.v | c.v | d.v)};
+}
+static inline int meets_FaultSet(FaultSet v, FaultSet w) { return !(v.v & ~w.v); }
+
+WORD(FirstFault)
+static inline FirstFault series_FirstFault(FirstFault a, FirstFault b) { return a.v ? a : b; }
+static inline FirstFault parallel_FirstFault(FirstFault a, FirstFault b) { return (FirstFault){a.v && b.v ? a.v : 0}; }
+static inline FirstFault bridge_FirstFault(FirstFault a, FirstFault b, FirstFault c, FirstFault d, FirstFault e) {
+  FirstFault upper = series_FirstFault(a, d), lower = series_FirstFault(b, e);
+  FirstFault down = series_FirstFault(series_FirstFault(a, c), e), up = series_FirstFault(series_FirstFault(b, c), d);
+  return parallel_FirstFault(parallel_FirstFault(parallel_FirstFault(upper, lower), down), up);
+}
+static inline int meets_FirstFault(FirstFault v, FirstFault w) { return v.v == 0 || v.v == w.v; }
+
+/* a delay and a flow side by side */
+typedef struct { Delay first; Flow second; } Pair;
+static inline int order_Pair(Pair a, Pair b) { int o = order_Delay(a.first, b.first); return o ? o : order_Flow(a.second, b.second); }
+static inline Pair series_Pair(Pair a, Pair b) { return (Pair){series_Delay(a.first, b.first), series_Flow(a.second, b.second)}; }
+static inline Pair parallel_Pair(Pair a, Pair b) { return (Pair){parallel_Delay(a.first, b.first), parallel_Flow(a.second, b.second)}; }
+static inline Pair bridge_Pair(Pair a, Pair b, Pair c, Pair d, Pair e) {
+  return (Pair){bridge_Delay(a.first, b.first, c.first, d.first, e.first), bridge_Flow(a.second, b.second, c.second, d.second, e.second)};
+}
+static inline int meets_Pair(Pair v, Pair w) { return meets_Delay(v.first, w.first) && meets_Flow(v.second, w.second); }
+static inline Pair Pair_of(const u32 *w) { return (Pair){{w[0]}, {w[1]}}; }
+static inline void Pair_to(Pair p, u32 *w) { w[0] = p.first.v; w[1] = p.second.v; }
+
+/* a kind with the value out */
+#define OR_OUT(K)                                                                                              \
+  typedef struct { u32 out; K v; } K##OrOut;                                                                   \
+  static inline int order_##K##OrOut(K##OrOut a, K##OrOut b) {                                                 \
+    return a.out != b.out ? (a.out ? -1 : 1) : a.out ? 0 : order_##K(a.v, b.v);                                \
+  }                                                                                                            \
+  static inline K##OrOut series_##K##OrOut(K##OrOut a, K##OrOut b) {                                           \
+    if (a.out || b.out) return (K##OrOut){1, {0}};                                                             \
+    return (K##OrOut){0, series_##K(a.v, b.v)};                                                                \
+  }                                                                                                            \
+  static inline K##OrOut parallel_##K##OrOut(K##OrOut a, K##OrOut b) {                                         \
+    if (a.out) return b;                                                                                       \
+    if (b.out) return a;                                                                                       \
+    return (K##OrOut){0, parallel_##K(a.v, b.v)};                                                              \
+  }                                                                                                            \
+  static inline K##OrOut bridge_##K##OrOut(K##OrOut a, K##OrOut b, K##OrOut c, K##OrOut d, K##OrOut e) {       \
+    if (c.out) return parallel_##K##OrOut(series_##K##OrOut(a, d), series_##K##OrOut(b, e));                   \
+    if (a.out) return series_##K##OrOut(b, parallel_##K##OrOut(e, series_##K##OrOut(c, d)));                   \
+    if (b.out) return series_##K##OrOut(a, parallel_##K##OrOut(d, series_##K##OrOut(c, e)));                   \
+    if (d.out) return series_##K##OrOut(parallel_##K##OrOut(series_##K##OrOut(a, c), b), e);                   \
+    if (e.out) return series_##K##OrOut(parallel_##K##OrOut(a, series_##K##OrOut(b, c)), d);                   \
+    return (K##OrOut){0, bridge_##K(a.v, b.v, c.v, d.v, e.v)};                                                 \
+  }                                                                                                            \
+  static inline int meets_##K##OrOut(K##OrOut v, K##OrOut w) { return !v.out && (w.out || meets_##K(v.v, w.v)); } \
+  static inline K##OrOut K##OrOut_of(const u32 *w) { return (K##OrOut){w[0], {w[1]}}; }                        \
+  static inline void K##OrOut_to(K##OrOut p, u32 *w) { w[0] = p.out; w[1] = p.out ? 0 : p.v.v; }
+
+OR_OUT(Flow)
+OR_OUT(Delay)
+
+/* weights */
+static inline u32 sum_Parts(u32 a, u32 b) { return cap((u64)a + b); }
+static inline u32 times_Parts(u32 a, u32 b) { return cap((u64)a * b); }
+static inline u32 sum_Scenarios(u32 a, u32 b) { return a | b; }
+static inline u32 times_Scenarios(u32 a, u32 b) { return a & b; }
+static inline u32 sum_Effort(u32 a, u32 b) { return least(a, b); }
+static inline u32 times_Effort(u32 a, u32 b) { return cap((u64)a + b); }
+enum { none_Parts = 0, none_Scenarios = 0 };
+#define none_Effort TOP
+
+#endif

@@ -1,0 +1,137 @@
+/* The plain program for one model, KIND and WEIGHT: each combination is looked up by a binary search in the row so far, and added or
+   put in. With SHORTCUTS it does what the engine does: it looks first at the place of the last term merged, then at the next one, and
+   goes no further with arms whose product weighs nothing. */
+#define OF(name) GLUE(name, KIND)
+#define TERM OF(Term)
+#define ROW OF(Row)
+#define TIMES GLUE(times, WEIGHT)
+#define SUM GLUE(sum, WEIGHT)
+#define NONE GLUE(none, WEIGHT)
+
+#ifdef SHORTCUTS
+#define STOPS(weight) ((weight) == NONE)
+#else
+#define STOPS(weight) 0
+#endif
+
+typedef struct { KIND p; u32 w; } TERM;
+typedef struct { size_t len, last; TERM terms[ROOM]; } ROW;
+
+/* Answers 0 where the row grows too long. */
+static int OF(merge)(ROW *row, KIND p, u32 w) {
+#ifdef SHORTCUTS
+  for (size_t at = row->last; at < row->len && at < row->last + 2; at++)
+    if (OF(order)(row->terms[at].p, p) == 0) {
+      row->terms[at].w = SUM(row->terms[at].w, w);
+      row->last = at;
+      return 1;
+    }
+#endif
+  if (w == NONE) return 1;
+  size_t low = 0, high = row->len;
+  while (low < high) {
+    size_t middle = low + (high - low) / 2;
+    if (OF(order)(row->terms[middle].p, p) < 0) low = middle + 1; else high = middle;
+  }
+  row->last = low;
+  if (low < row->len && OF(order)(row->terms[low].p, p) == 0) {
+    row->terms[low].w = SUM(row->terms[low].w, w);
+    return 1;
+  }
+  if (row->len == ROOM) return 0;
+  memmove(row->terms + low + 1, row->terms + low, (row->len - low) * sizeof row->terms[0]);
+  row->terms[low] = (TERM){p, w};
+  row->len++;
+  return 1;
+}
+
+static int OF(join)(char letter, const ROW *x, const ROW *y, ROW *row) {
+  row->len = row->last = 0;
+  for (size_t i = 0; i < x->len; i++)
+    for (size_t j = 0; j < y->len; j++) {
+      TERM s = x->terms[i], t = y->terms[j];
+      KIND p = letter == 'S' ? OF(series)(s.p, t.p) : OF(parallel)(s.p, t.p);
+      if (!OF(merge)(row, p, TIMES(s.w, t.w))) return 0;
+    }
+  return 1;
+}
+
+static int OF(cross)(const ROW *a, const ROW *b, const ROW *c, const ROW *d, const ROW *e, ROW *row) {
+  row->len = row->last = 0;
+  for (size_t i = 0; i < a->len; i++)
+    for (size_t j = 0; j < b->len; j++) {
+      u32 ab = TIMES(a->terms[i].w, b->terms[j].w);
+      if (STOPS(ab)) continue;
+      for (size_t k = 0; k < c->len; k++) {
+        u32 abc = TIMES(ab, c->terms[k].w);
+        if (STOPS(abc)) continue;
+        for (size_t l = 0; l < d->len; l++) {
+          u32 abcd = TIMES(abc, d->terms[l].w);
+          if (STOPS(abcd)) continue;
+          for (size_t m = 0; m < e->len; m++) {
+            KIND p = OF(bridge)(a->terms[i].p, b->terms[j].p, c->terms[k].p, d->terms[l].p, e->terms[m].p);
+            if (!OF(merge)(row, p, TIMES(abcd, e->terms[m].w))) return 0;
+          }
+        }
+      }
+    }
+  return 1;
+}
+
+static int64_t OF(analyse)(const uint8_t *model, uint8_t *output) {
+  ROW rows[NODES], work;
+  size_t nodes = model[1] - 1u;
+  const uint8_t *at = model + 2;
+  u32 w[2];
+  for (size_t k = 0; k < nodes; k++) {
+    char letter = (char)at[0];
+    size_t count = at[1];
+    const uint8_t *body = at + 2;
+    ROW *row = &rows[k];
+    if (letter == 'P') {
+      row->len = row->last = 0;
+      for (size_t i = 0; i < count; i++) {
+        words_at(body + 16 * i, w);
+        if (!OF(merge)(row, FROM_WORDS(KIND)(w), weight_at(body + 16 * i))) return TOO_LONG;
+      }
+      at = body + 16 * count;
+      continue;
+    }
+    if (letter == 'B') {
+      if (!OF(cross)(&rows[body[0]], &rows[body[1]], &rows[body[2]], &rows[body[3]], &rows[body[4]], row)) return TOO_LONG;
+    } else {
+      *row = rows[body[0]];
+      for (size_t i = 1; i < count; i++) {
+        if (!OF(join)(letter, row, &rows[body[i]], &work)) return TOO_LONG;
+        *row = work;
+      }
+    }
+    at = body + count;
+  }
+  const ROW *row = &rows[nodes - 1];
+  uint8_t *to = output;
+  for (size_t i = 0; i < at[1]; i++) {
+    words_at(at + 2 + 8 * i, w);
+    u32 met = NONE, all = NONE;
+    for (size_t j = 0; j < row->len; j++) {
+      all = SUM(all, row->terms[j].w);
+      if (OF(meets)(row->terms[j].p, FROM_WORDS(KIND)(w))) met = SUM(met, row->terms[j].w);
+    }
+    to = put_need(to, w, met, all);
+  }
+  for (size_t j = 0; j < row->len; j++) {
+    TO_WORDS(KIND)(row->terms[j].p, w);
+    to = put_term(to, w, row->terms[j].w);
+  }
+  return to - output;
+}
+
+#undef OF
+#undef TERM
+#undef ROW
+#undef TIMES
+#undef SUM
+#undef NONE
+#undef STOPS
+#undef KIND
+#undef WEIGHT
