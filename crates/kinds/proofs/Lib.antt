@@ -1,3 +1,4 @@
+pub mod Crossing
 pub mod FlowLaws
 pub mod Lawful
 pub mod Members

@@ -58,10 +58,17 @@ impl Performance for Delay {
     }
 
     fn in_bridge(a: Delay, b: Delay, c: Delay, d: Delay, e: Delay) -> Delay {
-        Delay::through_paths(a, b, c, d, e)
+        // The paths without c, and what c adds to in the other two.
+        let without = a.capped_sum(d).smaller(b.capped_sum(e));
+        let with = a.capped_sum(e).smaller(b.capped_sum(d));
+        without.smaller(with.capped_sum(c))
     }
 
     fn satisfies(self, demand: Delay) -> bool {
         self <= demand && self.number() < TOP32
+    }
+
+    fn slot(self) -> u8 {
+        self.low_byte()
     }
 }

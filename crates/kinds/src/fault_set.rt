@@ -57,10 +57,17 @@ impl Performance for FaultSet {
     }
 
     fn in_bridge(a: FaultSet, b: FaultSet, c: FaultSet, d: FaultSet, e: FaultSet) -> FaultSet {
-        FaultSet::through_paths(a, b, c, d, e)
+        // The paths without c, and what c adds to in the other two.
+        let without = a.union(d).intersection(b.union(e));
+        let with = a.union(e).intersection(b.union(d));
+        without.intersection(with.union(c))
     }
 
     fn satisfies(self, demand: FaultSet) -> bool {
         self.intersection(demand) == self
+    }
+
+    fn slot(self) -> u8 {
+        self.low_byte()
     }
 }

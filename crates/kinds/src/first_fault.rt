@@ -68,10 +68,21 @@ impl Performance for FirstFault {
         d: FirstFault,
         e: FirstFault,
     ) -> FirstFault {
-        FirstFault::through_paths(a, b, c, d, e)
+        // A fault in c is met by no path first, but keeps two of them from being healthy.
+        let without = a.in_series(d).in_parallel(b.in_series(e));
+        let with = a.in_series(e).in_parallel(b.in_series(d));
+        if c.is_zero() {
+            without.in_parallel(with)
+        } else {
+            without
+        }
     }
 
     fn satisfies(self, demand: FirstFault) -> bool {
         self.is_zero() || self == demand
+    }
+
+    fn slot(self) -> u8 {
+        self.low_byte()
     }
 }

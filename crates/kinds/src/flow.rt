@@ -57,15 +57,17 @@ impl Performance for Flow {
     }
 
     fn in_bridge(a: Flow, b: Flow, c: Flow, d: Flow, e: Flow) -> Flow {
-        // By the cuts, where other kinds go by the paths.
-        let source = a.capped_sum(b);
-        let sink = d.capped_sum(e);
-        let down = a.capped_sum(c).capped_sum(e);
-        let up = b.capped_sum(c).capped_sum(d);
-        source.smaller(sink).smaller(down).smaller(up)
+        // The cuts without c, and what c adds to in the other two: with the other arms picked, only the last line is left for each c.
+        let without = a.capped_sum(b).smaller(d.capped_sum(e));
+        let with = a.capped_sum(e).smaller(b.capped_sum(d));
+        without.smaller(with.capped_sum(c))
     }
 
     fn satisfies(self, demand: Flow) -> bool {
         self >= demand
+    }
+
+    fn slot(self) -> u8 {
+        self.low_byte()
     }
 }

@@ -68,19 +68,21 @@ impl<K: Performance> Performance for OrOut<K> {
     }
 
     fn in_bridge(a: Self, b: Self, c: Self, d: Self, e: Self) -> Self {
-        match (a, b, c, d, e) {
-            (a, b, OrOut::Out, d, e) => a.in_series(d).in_parallel(b.in_series(e)),
-            (OrOut::Out, b, c, d, e) => b.in_series(e.in_parallel(c.in_series(d))),
-            (a, OrOut::Out, c, d, e) => a.in_series(d.in_parallel(c.in_series(e))),
-            (a, b, c, OrOut::Out, e) => a.in_series(c).in_parallel(b).in_series(e),
-            (a, b, c, d, OrOut::Out) => a.in_parallel(b.in_series(c)).in_series(d),
+        // All working first: one test is then left of four arms that stay while c is gone through. Else the first arm that is out, in
+        // the order c, a, b, d, e, picks the formula.
+        match (a, b, d, e, c) {
             (
                 OrOut::Working(a),
                 OrOut::Working(b),
-                OrOut::Working(c),
                 OrOut::Working(d),
                 OrOut::Working(e),
-            ) => { OrOut::Working(K::in_bridge(a, b, c, d, e)) }
+                OrOut::Working(c),
+            ) => OrOut::Working(K::in_bridge(a, b, c, d, e)),
+            (a, b, d, e, OrOut::Out) => a.in_series(d).in_parallel(b.in_series(e)),
+            (OrOut::Out, b, d, e, c) => b.in_series(e.in_parallel(c.in_series(d))),
+            (a, OrOut::Out, d, e, c) => a.in_series(d.in_parallel(c.in_series(e))),
+            (a, b, OrOut::Out, e, c) => a.in_series(c).in_parallel(b).in_series(e),
+            (a, b, d, OrOut::Out, c) => a.in_parallel(b.in_series(c)).in_series(d),
         }
     }
 
@@ -89,6 +91,13 @@ impl<K: Performance> Performance for OrOut<K> {
             (OrOut::Out, _) => false,
             (OrOut::Working(_), OrOut::Out) => true,
             (OrOut::Working(v), OrOut::Working(w)) => v.satisfies(w),
+        }
+    }
+
+    fn slot(self) -> u8 {
+        match self {
+            OrOut::Out => 255,
+            OrOut::Working(v) => v.slot(),
         }
     }
 }

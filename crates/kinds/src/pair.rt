@@ -75,4 +75,8 @@ impl<A: Performance, B: Performance> Performance for Pair<A, B> {
     fn satisfies(self, demand: Self) -> bool {
         self.first.satisfies(demand.first) & self.second.satisfies(demand.second)
     }
+
+    fn slot(self) -> u8 {
+        self.first.slot().wrapping_mul(17) ^ self.second.slot()
+    }
 }

@@ -47,6 +47,12 @@ pub trait Performance: Copy {
     fn satisfies(self, demand: Self) -> bool
         ensures { result ≡ meets self demand };
 
+    // A number by which a row remembers where it last found this performance. It decides nothing, so that any number is right; the less
+    // often those of one row are alike, the fewer searches there are.
+    fn slot(self) -> u8 {
+        0
+    }
+
     // A bridge by its paths, for kinds that want it: a-d, b-e, a-c-e and b-c-d in series, joined in parallel in this order.
     fn through_paths(a: Self, b: Self, c: Self, d: Self, e: Self) -> Self
         ensures { result ≡ by_paths series parallel a b c d e }

@@ -1,5 +1,5 @@
 // A word of 32 bits, of which the named kinds and weights are made.
-ghost use Rattle.std.specs.Prelude.{◌≡◌, ◌^◌, ◌<◌, ⊤, Some, decimal};
+ghost use Rattle.std.specs.Prelude.{◌≡◌, ◌%◌, ◌^◌, ◌<◌, ⊤, Some, decimal};
 
 use crate::capped::cap;
 use std::alloc::AllocError;
@@ -61,6 +61,12 @@ impl<Of> Word<Of> {
         ensures { result ≡ holds_number 0 self }
     {
         self.number() == 0
+    }
+
+    pub(crate) fn low_byte(self) -> u8
+        ensures { result ≡ self.bits % 256 }
+    {
+        (self.bits & 255) as u8
     }
 
     pub(crate) fn smaller(self, other: Word<Of>) -> Word<Of>

@@ -92,7 +92,7 @@ module _ {P W : Type 0} {kind : Performance.Ghosts P} {weights : Weight.Ghosts W
     abbrev over_b : List T → List T → List T → List T → T → W
     over_b bs cs ds es a = total (λ b. over_c cs ds es a b) bs
 
-    sum_bridges : (qs bs cs ds es : List T) → total gives (bridges kind weights qs bs cs ds es) ≡ total (over_b bs cs ds es) qs
+    pub sum_bridges : (qs bs cs ds es : List T) → total gives (bridges kind weights qs bs cs ds es) ≡ total (over_b bs cs ds es) qs
     sum_bridges qs bs cs ds es =
         sum_each w gives qs _ ∙ sum_cong w _ _ qs (λ a.
         sum_each w gives bs _ ∙ sum_cong w _ _ bs (λ b.

@@ -1,10 +1,18 @@
 -- What f gives for each item of a list, one after the other.
-use Rattle.std.proofs.Common.{◌≡◌, List, [], ◌∷◌, ◌++◌, sym, refl, ap, ◌∙◌, append_assoc, append-nil}
+use Rattle.std.proofs.Common.{◌≡◌, ℕ, ◌+◌, ◌<◌, List, [], ◌∷◌, ◌++◌, length, get_or, take, sym, refl, ap, ◌∙◌, append_assoc, append-nil}
+use Rattle.std.proofs.lemmas.List.{take_more}
 use Rattle.terms.specs.Combinations.{each}
 
 pub each_append : {A B : Type 0} (xs ys : List A) (f : A → List B) → each (xs ++ ys) f ≡ each xs f ++ each ys f
 each_append [] ys f = refl
 each_append (x ∷ xs) ys f = ap (λ z. f x ++ z) (each_append xs ys f) ∙ sym (append_assoc (f x) (each xs f) (each ys f))
+
+-- one item more
+pub each_next : {A B : Type 0} (xs : List A) (f : A → List B) (i : ℕ) (x : A) → i < length xs → x ≡ get_or xs i x → each (take (i + 1) xs) f ≡ each (take i xs) f ++ f x
+each_next xs f i x within read =
+    ap (λ z. each z f) (take_more xs i x within ∙ ap (λ z. take i xs ++ z ∷ []) (sym read))
+    ∙ each_append (take i xs) (x ∷ []) f
+    ∙ ap (λ z. each (take i xs) f ++ z) (append-nil (f x))
 
 pub each_single : {A : Type 0} (xs : List A) → each xs (λ x. x ∷ []) ≡ xs
 each_single [] = refl

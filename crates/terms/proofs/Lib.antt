@@ -16,3 +16,5 @@ pub mod Redrawing
 pub mod Listing
 pub mod Beneath
 pub mod Children
+pub mod Reordering
+pub mod Pending

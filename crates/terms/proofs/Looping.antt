@@ -1,5 +1,5 @@
 -- One loop over a list, each item of which adds terms to a row.
-use Rattle.std.proofs.Common.{◌≡◌, ℕ, ◌+◌, ◌<◌, ◌≤◌, List, [], ◌∷◌, ◌++◌, length, get_or, take, drop, None, sym, refl, ap, ◌∙◌, subst, append_assoc, append-nil, arith}
+use Rattle.std.proofs.Common.{◌≡◌, ℕ, ◌+◌, ◌<◌, ◌≤◌, List, [], ◌∷◌, ◌++◌, length, get_or, take, drop, None, sym, refl, ap, ◌∙◌, subst, append_assoc, arith}
 use Rattle.std.proofs.lemmas.List.{take_more, take-append-drop, take_all}
 use Rattle.kinds.specs.declared.performance.Performance
 use Rattle.kinds.specs.declared.weight.Weight
@@ -10,7 +10,7 @@ use Rattle.terms.specs.Combinations.{each}
 use Rattle.kinds.proofs.Lawful.{Kind, Weighing}
 use Rattle.terms.proofs.Summing.{sum_append, sum_one}
 use Rattle.terms.proofs.Canonical.{canon, canon_row, canon_longer, row_unique}
-use Rattle.terms.proofs.Each.{each_append}
+use Rattle.terms.proofs.Each.{each_append, each_next}
 
 module _ {P W : Type 0} {kind : Performance.Ghosts P} {weights : Weight.Ghosts W} (k : Kind kind) (w : Weighing weights) where
   abbrev T : Type 0
@@ -50,10 +50,7 @@ module _ {P W : Type 0} {kind : Performance.Ghosts P} {weights : Weight.Ghosts W
     front = each (take i xs) f
 
     front_more : each (take (i + 1) xs) f ≡ front ++ f x
-    front_more =
-        ap (λ z. each z f) (take_more xs i x in_List ∙ ap (λ z. take i xs ++ z ∷ []) (sym read))
-        ∙ each_append (take i xs) (x ∷ []) f
-        ∙ ap (λ z. front ++ z) (append-nil (f x))
+    front_more = each_next xs f i x in_List read
 
     same_more : Same (each (take (i + 1) xs) f ++ r₀) (f x ++ r)
     same_more p =

@@ -4,9 +4,9 @@ use Rattle.kinds.specs.declared.performance.Performance
 use Rattle.kinds.specs.declared.weight.Weight
 use Rattle.terms.specs.declared.term.Term.{Term}
 use Rattle.terms.specs.Rows.{if_same, share, weight_at, SameDistribution, IsRow, RowOf}
-use Rattle.terms.specs.Combinations.{each, term}
-use Rattle.terms.specs.Picking.{with_b, with_c, with_d}
-use Rattle.terms.specs.Growing.{scaled, GivesNothing}
+use Rattle.terms.specs.Combinations.{each}
+use Rattle.terms.specs.Picking.{with_b, with_d, with_e}
+use Rattle.terms.specs.Growing.{scaled, mapped, GivesNothing}
 use Rattle.kinds.proofs.Lawful.{Kind, Weighing}
 use Rattle.terms.proofs.Summing.{sum_append}
 
@@ -42,14 +42,17 @@ module _ {P W : Type 0} {kind : Performance.Ghosts P} {weights : Weight.Ghosts W
   pub void_times : (xs : List T) (gives : T → List T) → GivesNothing kind weights gives → (v : W) → v ≡ weights.nothing → Void (each xs λ x. gives (scaled weights v x))
   void_times xs gives keeps v e = void_each xs _ (λ x. keeps _ (ap (λ z. weights.product z x.weight) e ∙ w.absorbs x.weight))
 
-  pub void_d : (a b c : P) (es : List T) → GivesNothing kind weights (λ d. with_d kind weights a b c d es)
-  void_d a b c es d = void_times es (λ e. term (kind.bridge a b c d.performance e.performance) e.weight ∷ []) (λ e. void_one _) d.weight
+  pub void_mapped : (xs : List T) (g : P → P) (v : W) → v ≡ weights.nothing → Void (each xs λ x. mapped weights g v x ∷ [])
+  void_mapped xs g v e = void_each xs _ (λ x. void_one _ (ap (λ z. weights.product z x.weight) e ∙ w.absorbs x.weight))
 
-  pub void_c : (a b : P) (ds es : List T) → GivesNothing kind weights (λ c. with_c kind weights a b c ds es)
-  void_c a b ds es c = void_times ds (λ d. with_d kind weights a b c.performance d es) (void_d a b c.performance es) c.weight
+  pub void_e : (a b d : P) (cs : List T) → GivesNothing kind weights (λ e. with_e kind weights a b d e cs)
+  void_e a b d cs e = void_mapped cs (λ p. kind.bridge a b p d e.performance) e.weight
 
-  pub void_b : (a : P) (cs ds es : List T) → GivesNothing kind weights (λ b. with_b kind weights a b cs ds es)
-  void_b a cs ds es b = void_times cs (λ c. with_c kind weights a b.performance c ds es) (void_c a b.performance ds es) b.weight
+  pub void_d : (a b : P) (es cs : List T) → GivesNothing kind weights (λ d. with_d kind weights a b d es cs)
+  void_d a b es cs d = void_times es (λ e. with_e kind weights a b d.performance e cs) (void_e a b d.performance cs) d.weight
+
+  pub void_b : (a : P) (ds es cs : List T) → GivesNothing kind weights (λ b. with_b kind weights a b ds es cs)
+  void_b a ds es cs b = void_times ds (λ d. with_d kind weights a b.performance d es cs) (void_d a b.performance es cs) b.weight
 
   pub void_adds : (ts r : List T) → Void ts → IsRow kind weights r → RowOf kind weights (ts ++ r) r
   void_adds ts r e h = record {

@@ -20,6 +20,18 @@ length_if None n = None
 abbrev pub scaled : {P W : Type 0} → Weight.Ghosts W → W → Term P W → Term P W
 scaled weights w t = term t.performance (weights.product w t.weight)
 
+-- a term with its performance changed by g, and its weight times w
+abbrev pub mapped : {P W : Type 0} → Weight.Ghosts W → (P → P) → W → Term P W → Term P W
+mapped weights g w t = term (g t.performance) (weights.product w t.weight)
+
+-- a call of the closure for p makes `g p` of it
+abbrev pub Maps : {P : Type 0} → (P → P → Type 0) → (P → P) → Type 0
+Maps {P} post g = (p q : P) → post p q → q ≡ g p
+
+-- the claim holds of whatever the calls of the closure are known to make
+abbrev pub OfMap : {P : Type 0} → (P → P → Type 0) → ((P → P) → Type 0) → Type 0
+OfMap {P} post claim = (g : P → P) → Maps post g → claim g
+
 module _ {P W : Type 0} (kind : Performance.Ghosts P) (weights : Weight.Ghosts W) where
   -- more terms are merged onto the row, in the same room
   pub record Grows (more : List (Term P W)) (before after : Row P W) (answer : Option (Unit {0})) : Type 0 where

@@ -21,30 +21,31 @@ pub fn bridge<P: Performance, W: Weight>(
 {
     let arms = Arms {
         b: arm_b,
-        c: arm_c,
         d: arm_d,
         e: arm_e,
+        c: arm_c,
     };
     Row::of_each(arm_a, room, |row, a| arms.with_a(a, row))
 }
 
-// The arms that are picked from after arm a. The weight of the term picked last is the product of all those picked. A function for
-// each level: as closures within closures they prove too, but stand five deep and need the same clauses.
+// The arms that are picked from after arm a. The weight of the term picked last is the product of all those picked. Arm c comes last: once
+// the flow, say, through the other four is known, more of c mostly changes nothing, so that many like performances follow one another. A
+// function for each level: as closures within closures they prove too, but stand five deep and need the same clauses.
 #[derive(Clone, Copy)]
 struct Arms<'a, P, W> {
     b: &'a [Term<P, W>],
-    c: &'a [Term<P, W>],
     d: &'a [Term<P, W>],
     e: &'a [Term<P, W>],
+    c: &'a [Term<P, W>],
 }
 
 impl<P: Performance, W: Weight> Arms<'_, P, W> {
     ghost use Rattle.terms.specs.Growing.{Grows};
-    ghost use Rattle.terms.specs.Picking.{with_a, with_b, with_c, with_d};
+    ghost use Rattle.terms.specs.Picking.{with_a, with_b, with_d, with_e};
 
-    // Arm a picked: every b with all of c to e.
+    // Arm a picked: every b with all of the arms after it.
     fn with_a(&self, a: Term<P, W>, row: &mut Row<P, W>) -> Option<()>
-        ensures { Grows P.Performance W.Weight (with_a P.Performance W.Weight a self.now.b.now self.now.c.now self.now.d.now self.now.e.now) row.old row.new result }
+        ensures { Grows P.Performance W.Weight (with_a P.Performance W.Weight a self.now.b.now self.now.d.now self.now.e.now self.now.c.now) row.old row.new result }
     {
         row.for_each_times(
             a.weight,
@@ -53,37 +54,36 @@ impl<P: Performance, W: Weight> Arms<'_, P, W> {
         )
     }
 
-    // Arms a and b picked: every c with all of d and e.
+    // Arms a and b picked: every d with all of e and c.
     fn with_b(&self, a: P, b: Term<P, W>, row: &mut Row<P, W>) -> Option<()>
-        ensures { Grows P.Performance W.Weight (with_b P.Performance W.Weight a b self.now.c.now self.now.d.now self.now.e.now) row.old row.new result }
+        ensures { Grows P.Performance W.Weight (with_b P.Performance W.Weight a b self.now.d.now self.now.e.now self.now.c.now) row.old row.new result }
     {
         row.for_each_times(
             b.weight,
-            self.c,
-            |row, c| self.with_c(a, b.performance, c, row),
+            self.d,
+            |row, d| self.with_d(a, b.performance, d, row),
         )
     }
 
-    // Arms a to c picked: every d with all of e.
-    fn with_c(&self, a: P, b: P, c: Term<P, W>, row: &mut Row<P, W>) -> Option<()>
-        ensures { Grows P.Performance W.Weight (with_c P.Performance W.Weight a b c self.now.d.now self.now.e.now) row.old row.new result }
+    // Arms a, b and d picked: every e with all of c.
+    fn with_d(&self, a: P, b: P, d: Term<P, W>, row: &mut Row<P, W>) -> Option<()>
+        ensures { Grows P.Performance W.Weight (with_d P.Performance W.Weight a b d self.now.e.now self.now.c.now) row.old row.new result }
     {
         row.for_each_times(
-            c.weight,
-            self.d,
-            |row, d| self.with_d(a, b, c.performance, d, row),
+            d.weight,
+            self.e,
+            |row, e| self.with_e(a, b, d.performance, e, row),
         )
     }
 
-    // Arms a to d picked: every e.
-    fn with_d(&self, a: P, b: P, c: P, d: Term<P, W>, row: &mut Row<P, W>) -> Option<()>
-        ensures { Grows P.Performance W.Weight (with_d P.Performance W.Weight a b c d self.now.e.now) row.old row.new result }
+    // All arms but c picked: every c.
+    fn with_e(&self, a: P, b: P, d: P, e: Term<P, W>, row: &mut Row<P, W>) -> Option<()>
+        ensures { Grows P.Performance W.Weight (with_e P.Performance W.Weight a b d e self.now.c.now) row.old row.new result }
     {
-        row.for_each_times(d.weight, self.e, |row, e| {
-            row.put(Term {
-                performance: P::in_bridge(a, b, c, d.performance, e.performance),
-                weight: e.weight,
-            })
-        })
+        row.put_each(
+            e.weight,
+            self.c,
+            |c| P::in_bridge(a, b, c, d, e.performance),
+        )
     }
 }

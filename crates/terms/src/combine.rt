@@ -30,13 +30,8 @@ pub fn combine_terms<P: Performance, W: Weight>(
 ) -> Term<P, W>
     ensures { result ≡ combined W.Weight (joins P.Performance way) x y }
 {
-    // The public calls take the way as a value, so the choice of the operation is made here.
-    let performance = match way {
-        Way::Series => x.performance.in_series(y.performance),
-        Way::Parallel => x.performance.in_parallel(y.performance),
-    };
     Term {
-        performance,
+        performance: join(way, x.performance, y.performance),
         weight: x.weight.times(y.weight),
     }
 }
@@ -50,5 +45,15 @@ fn with_all<P: Performance, W: Weight>(
 ) -> Option<()>
     ensures { Grows P.Performance W.Weight (each ys.now (λ y. combined W.Weight (joins P.Performance way) x y ∷ [])) row.old row.new result }
 {
-    row.for_each(ys, |row, y| row.put(combine_terms(way, x, y)))
+    row.put_each(x.weight, ys, |y| join(way, x.performance, y))
+}
+
+// Two performances, joined. The public calls take the way as a value, so the choice of the operation is made here.
+fn join<P: Performance>(way: Way, x: P, y: P) -> P
+    ensures { result ≡ joins P.Performance way x y }
+{
+    match way {
+        Way::Series => x.in_series(y),
+        Way::Parallel => x.in_parallel(y),
+    }
 }

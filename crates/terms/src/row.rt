@@ -1,5 +1,5 @@
 // A row that stands in lent memory, and what merges a term into it.
-ghost use Rattle.std.specs.Prelude.{◌≡◌, ◌≤◌, length};
+ghost use Rattle.std.specs.Prelude.{◌≡◌, ◌≤◌, ◌%◌, length};
 ghost use Rattle.std.specs.List.Sorted.{IsBinarySearchResult, IsSearchInRange};
 ghost use Rattle.terms.specs.Combinations.{term};
 
@@ -7,11 +7,13 @@ use crate::term::{Filled, Term};
 use kinds::performance::Performance;
 use kinds::weight::Weight;
 
-// A row in the first places of a room. The room is the caller's, and so is what tells how far it is filled.
+// A row in the first places of a room. The room is the caller's, and so is what tells how far it is filled. `seen` has, by the slot of a
+// performance, the place where one of that slot was last merged: a hint, and any number does.
 #[derive(Drop)]
 pub(crate) struct Row<'a, P, W> {
     pub(crate) room: &'a mut [Term<P, W>],
     pub(crate) filled: Filled,
+    seen: [u8; 256],
     ghost fits: { filled.len ≤ length room.now },
 }
 
@@ -19,7 +21,7 @@ pub(crate) struct Row<'a, P, W> {
 impl<'a, P: Performance, W: Weight> Row<'a, P, W> {
     ghost use Rattle.std.specs.Prelude.{[], ◌∷◌};
     ghost use Rattle.terms.specs.Combinations.{each};
-    ghost use Rattle.terms.specs.Growing.{Grows, GrowsAt, OfStep, GivesNothing, scaled};
+    ghost use Rattle.terms.specs.Growing.{Grows, GrowsAt, OfStep, OfMap, GivesNothing, scaled, mapped};
     ghost use Rattle.terms.specs.Merging.{Merges};
 
     // The row of what a step for each of `xs` adds, in the first places of `room`; None where it is longer than the room.
@@ -44,7 +46,11 @@ impl<'a, P: Performance, W: Weight> Row<'a, P, W> {
         ensures untouched { result.room.now ≡ room.old }
         ensures filled { result.filled ≡ filled }
     {
-        Row { room, filled }
+        Row {
+            room,
+            filled,
+            seen: [hint(filled.last); 256],
+        }
     }
 
     // Takes a step for each of `xs`; None as soon as a step answers None.
@@ -84,15 +90,68 @@ impl<'a, P: Performance, W: Weight> Row<'a, P, W> {
         )
     }
 
+    // Adds a term for each of `xs`: `f` of its performance, with its weight times `weight`. Like ones that follow one another are held back
+    // and added once, since weights of likes add up; if `weight` is nothing, there is nothing to add.
+    pub(crate) fn put_each<F: Fn(P) -> P>(
+        &mut self,
+        weight: W,
+        xs: &[Term<P, W>],
+        f: F,
+    ) -> Option<()>
+        requires { F.IsAlwaysCallable f }
+        ensures { OfMap (F.post f) (λ g. Grows P.Performance W.Weight (each xs.now (λ x. mapped W.Weight g weight x ∷ [])) self.old self.new result) }
+    {
+        if weight.is_nothing() {
+            return Some(());
+        }
+        let Some((first, rest)) = xs.split_first() else {
+            return Some(());
+        };
+        let held = Term {
+            performance: f(first.performance),
+            weight: first.weight,
+        };
+        self.put_rest(weight, held, rest, f)
+    }
+
+    // The same, after `held`, which is held back.
+    fn put_rest<F: Fn(P) -> P>(
+        &mut self,
+        weight: W,
+        mut held: Term<P, W>,
+        rest: &[Term<P, W>],
+        f: F,
+    ) -> Option<()>
+        requires { F.IsAlwaysCallable f }
+        ensures { OfMap (F.post f) (λ g. Grows P.Performance W.Weight (scaled W.Weight weight held ∷ each rest.now (λ x. mapped W.Weight g weight x ∷ [])) self.old self.new result) }
+    {
+        for x in rest {
+            let performance = f(x.performance);
+            if performance.order(held.performance).is_eq() {
+                held = grown(held, x.weight);
+            } else {
+                self.put(scaled(weight, held))?;
+                held = Term {
+                    performance,
+                    weight: x.weight,
+                };
+            }
+        }
+        self.put(scaled(weight, held))
+    }
+
     // Adds one term: to the one of its performance if the row has it, or else at the place where that would stand.
     pub(crate) fn put(&mut self, t: Term<P, W>) -> Option<()>
         ensures { Grows P.Performance W.Weight (t ∷ []) self.old self.new result }
     {
+        let slot = t.performance.slot() as usize;
+        let guess = self.seen[slot] as usize;
         let room = &mut *self.room;
-        match place(&room[..self.filled.len], self.filled.last, t.performance) {
+        match place(&room[..self.filled.len], guess, t.performance) {
             Ok(at) => {
                 room[at] = grown(room[at], t.weight);
                 self.filled.last = at;
+                self.seen[slot] = hint(at);
                 Some(())
             }
             Err(at) => self.insert(at, t),
@@ -118,14 +177,21 @@ impl<'a, P: Performance, W: Weight> Row<'a, P, W> {
     }
 }
 
-// Where p stands in the row, or would stand: `last` and the next place are looked at before the row is searched.
-fn place<P: Performance, W: Weight>(row: &[Term<P, W>], last: usize, p: P) -> Result<usize, usize>
+// A place as a hint: one past 255 is none.
+fn hint(place: usize) -> u8
+    ensures { result ≡ place % 256 }
+{
+    (place & 255) as u8
+}
+
+// Where p stands in the row, or would stand: the guessed place and the next are looked at before the row is searched.
+fn place<P: Performance, W: Weight>(row: &[Term<P, W>], guess: usize, p: P) -> Result<usize, usize>
     ensures bound { IsSearchInRange result (length row.now) }
     ensures position { IsBinarySearchResult (λ t. P.compared t.performance p) row.now result }
 {
-    match row.get(last..) {
-        Some([here, ..]) if here.performance.order(p).is_eq() => Ok(last),
-        Some([_, next, ..]) if next.performance.order(p).is_eq() => Ok(last + 1),
+    match row.get(guess..) {
+        Some([here, ..]) if here.performance.order(p).is_eq() => Ok(guess),
+        Some([_, next, ..]) if next.performance.order(p).is_eq() => Ok(guess + 1),
         _ => row.binary_search_by(|t| t.performance.order(p)),
     }
 }
