@@ -1,5 +1,6 @@
 // A kind with one more value, out: no service at all.
-ghost use Rattle.kinds.specs.Outs.{out_compared, out_series, out_parallel, out_bridge, out_meets};
+ghost use Rattle.std.specs.Prelude.{◌≡◌};
+ghost use Rattle.kinds.specs.Outs.{out_compared, out_series, out_parallel, out_bridge, out_meets, works};
 ghost use Rattle.kinds.specs.Optional.{series_assoc, parallel_assoc, series_comm, parallel_comm};
 ghost use Rattle.std.proofs.Common.{rules};
 
@@ -68,21 +69,32 @@ impl<K: Performance> Performance for OrOut<K> {
     }
 
     fn in_bridge(a: Self, b: Self, c: Self, d: Self, e: Self) -> Self {
-        // All working first: one test is then left of four arms that stay while c is gone through. Else the first arm that is out, in
-        // the order c, a, b, d, e, picks the formula.
-        match (a, b, d, e, c) {
+        // One test of the arms that stay while c is gone through, which a compiler takes out of that loop, in place of four inside it.
+        if a.works() & b.works() & d.works() & e.works() {
+            if let (
+                OrOut::Working(a),
+                OrOut::Working(b),
+                OrOut::Working(c),
+                OrOut::Working(d),
+                OrOut::Working(e),
+            ) = (a, b, c, d, e)
+            {
+                return OrOut::Working(K::in_bridge(a, b, c, d, e));
+            }
+        }
+        match (a, b, c, d, e) {
+            (a, b, OrOut::Out, d, e) => a.in_series(d).in_parallel(b.in_series(e)),
+            (OrOut::Out, b, c, d, e) => b.in_series(e.in_parallel(c.in_series(d))),
+            (a, OrOut::Out, c, d, e) => a.in_series(d.in_parallel(c.in_series(e))),
+            (a, b, c, OrOut::Out, e) => a.in_series(c).in_parallel(b).in_series(e),
+            (a, b, c, d, OrOut::Out) => a.in_parallel(b.in_series(c)).in_series(d),
             (
                 OrOut::Working(a),
                 OrOut::Working(b),
+                OrOut::Working(c),
                 OrOut::Working(d),
                 OrOut::Working(e),
-                OrOut::Working(c),
-            ) => OrOut::Working(K::in_bridge(a, b, c, d, e)),
-            (a, b, d, e, OrOut::Out) => a.in_series(d).in_parallel(b.in_series(e)),
-            (OrOut::Out, b, d, e, c) => b.in_series(e.in_parallel(c.in_series(d))),
-            (a, OrOut::Out, d, e, c) => a.in_series(d.in_parallel(c.in_series(e))),
-            (a, b, OrOut::Out, e, c) => a.in_series(c).in_parallel(b).in_series(e),
-            (a, b, d, OrOut::Out, c) => a.in_parallel(b.in_series(c)).in_series(d),
+            ) => { OrOut::Working(K::in_bridge(a, b, c, d, e)) }
         }
     }
 
@@ -99,5 +111,13 @@ impl<K: Performance> Performance for OrOut<K> {
             OrOut::Out => 255,
             OrOut::Working(v) => v.slot(),
         }
+    }
+}
+
+impl<K> OrOut<K> {
+    fn works(&self) -> bool
+        ensures { result ≡ works self.now }
+    {
+        matches!(self, OrOut::Working(_))
     }
 }

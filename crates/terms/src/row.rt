@@ -158,7 +158,10 @@ impl<'a, P: Performance, W: Weight> Row<'a, P, W> {
         }
     }
 
-    // Puts a term in at the place `at`, between the lesser and the greater ones; the greater ones move up.
+    // Puts a term in at the place `at`, between the lesser and the greater ones; the greater ones move up. Called once for each
+    // place of a row at most, so that it had better not lie within the loops.
+    #[cold]
+    #[inline(never)]
     fn insert(&mut self, at: usize, t: Term<P, W>) -> Option<()>
         requires { at ≤ self.old.filled.len }
         ensures { GrowsAt P.Performance W.Weight t at self.old self.new result }

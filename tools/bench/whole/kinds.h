@@ -1,4 +1,5 @@
-/* The kinds of performance and of weight in plain C, as docs/KINDS.md tells them. */
+/* The kinds of performance and of weight in plain C, as docs/KINDS.md tells them. With SHORTCUTS the bridges are written as the engine writes
+   them, so that little is left to do for each c where the other four arms stay. */
 #ifndef KINDS_H
 #define KINDS_H
 
@@ -18,6 +19,7 @@ static inline int order(u32 a, u32 b) { return a < b ? -1 : a > b; }
 #define WORD(K)                                                        \
   typedef struct { u32 v; } K;                                         \
   static inline int order_##K(K a, K b) { return order(a.v, b.v); }    \
+  static inline uint8_t slot_##K(K a) { return (uint8_t)a.v; }         \
   static inline K K##_of(const u32 *w) { return (K){w[1]}; }           \
   static inline void K##_to(K p, u32 *w) { w[0] = 0; w[1] = p.v; }
 
@@ -25,7 +27,12 @@ WORD(Flow)
 static inline Flow series_Flow(Flow a, Flow b) { return (Flow){least(a.v, b.v)}; }
 static inline Flow parallel_Flow(Flow a, Flow b) { return (Flow){cap((u64)a.v + b.v)}; }
 static inline Flow bridge_Flow(Flow a, Flow b, Flow c, Flow d, Flow e) {
+#ifdef SHORTCUTS
+  u32 without = least(cap((u64)a.v + b.v), cap((u64)d.v + e.v)), with = least(cap((u64)a.v + e.v), cap((u64)b.v + d.v));
+  return (Flow){least(without, cap((u64)with + c.v))};
+#else
   return (Flow){least4(cap((u64)a.v + b.v), cap((u64)d.v + e.v), cap((u64)a.v + c.v + e.v), cap((u64)b.v + c.v + d.v))};
+#endif
 }
 static inline int meets_Flow(Flow v, Flow w) { return v.v >= w.v; }
 
@@ -33,7 +40,12 @@ WORD(Delay)
 static inline Delay series_Delay(Delay a, Delay b) { return (Delay){cap((u64)a.v + b.v)}; }
 static inline Delay parallel_Delay(Delay a, Delay b) { return (Delay){least(a.v, b.v)}; }
 static inline Delay bridge_Delay(Delay a, Delay b, Delay c, Delay d, Delay e) {
+#ifdef SHORTCUTS
+  u32 without = least(cap((u64)a.v + d.v), cap((u64)b.v + e.v)), with = least(cap((u64)a.v + e.v), cap((u64)b.v + d.v));
+  return (Delay){least(without, cap((u64)with + c.v))};
+#else
   return (Delay){least4(cap((u64)a.v + d.v), cap((u64)b.v + e.v), cap((u64)a.v + c.v + e.v), cap((u64)b.v + c.v + d.v))};
+#endif
 }
 static inline int meets_Delay(Delay v, Delay w) { return v.v <= w.v && v.v != TOP; }
 
@@ -41,7 +53,11 @@ WORD(FaultSet)
 static inline FaultSet series_FaultSet(FaultSet a, FaultSet b) { return (FaultSet){a.v | b.v}; }
 static inline FaultSet parallel_FaultSet(FaultSet a, FaultSet b) { return (FaultSet){a.v & b.v}; }
 static inline FaultSet bridge_FaultSet(FaultSet a, FaultSet b, FaultSet c, FaultSet d, FaultSet e) {
+#ifdef SHORTCUTS
+  return (FaultSet){(a.v | d.v) & (b.v | e.v) & (((a.v | e.v) & (b.v | d.v)) | c.v)};
+#else
   return (FaultSet){(a.v | d.v) & (b.v | e.v) & (a.v | c.v | e.v) & (b.v | c.v | d.v)};
+#endif
 }
 static inline int meets_FaultSet(FaultSet v, FaultSet w) { return !(v.v & ~w.v); }
 
@@ -49,15 +65,22 @@ WORD(FirstFault)
 static inline FirstFault series_FirstFault(FirstFault a, FirstFault b) { return a.v ? a : b; }
 static inline FirstFault parallel_FirstFault(FirstFault a, FirstFault b) { return (FirstFault){a.v && b.v ? a.v : 0}; }
 static inline FirstFault bridge_FirstFault(FirstFault a, FirstFault b, FirstFault c, FirstFault d, FirstFault e) {
+#ifdef SHORTCUTS
+  FirstFault without = parallel_FirstFault(series_FirstFault(a, d), series_FirstFault(b, e));
+  FirstFault with = parallel_FirstFault(series_FirstFault(a, e), series_FirstFault(b, d));
+  return c.v ? without : parallel_FirstFault(without, with);
+#else
   FirstFault upper = series_FirstFault(a, d), lower = series_FirstFault(b, e);
   FirstFault down = series_FirstFault(series_FirstFault(a, c), e), up = series_FirstFault(series_FirstFault(b, c), d);
   return parallel_FirstFault(parallel_FirstFault(parallel_FirstFault(upper, lower), down), up);
+#endif
 }
 static inline int meets_FirstFault(FirstFault v, FirstFault w) { return v.v == 0 || v.v == w.v; }
 
 /* a delay and a flow side by side */
 typedef struct { Delay first; Flow second; } Pair;
 static inline int order_Pair(Pair a, Pair b) { int o = order_Delay(a.first, b.first); return o ? o : order_Flow(a.second, b.second); }
+static inline uint8_t slot_Pair(Pair a) { return (uint8_t)(slot_Delay(a.first) * 17 ^ slot_Flow(a.second)); }
 static inline Pair series_Pair(Pair a, Pair b) { return (Pair){series_Delay(a.first, b.first), series_Flow(a.second, b.second)}; }
 static inline Pair parallel_Pair(Pair a, Pair b) { return (Pair){parallel_Delay(a.first, b.first), parallel_Flow(a.second, b.second)}; }
 static inline Pair bridge_Pair(Pair a, Pair b, Pair c, Pair d, Pair e) {
@@ -73,6 +96,7 @@ static inline void Pair_to(Pair p, u32 *w) { w[0] = p.first.v; w[1] = p.second.v
   static inline int order_##K##OrOut(K##OrOut a, K##OrOut b) {                                                 \
     return a.out != b.out ? (a.out ? -1 : 1) : a.out ? 0 : order_##K(a.v, b.v);                                \
   }                                                                                                            \
+  static inline uint8_t slot_##K##OrOut(K##OrOut a) { return a.out ? 255 : slot_##K(a.v); }                      \
   static inline K##OrOut series_##K##OrOut(K##OrOut a, K##OrOut b) {                                           \
     if (a.out || b.out) return (K##OrOut){1, {0}};                                                             \
     return (K##OrOut){0, series_##K(a.v, b.v)};                                                                \

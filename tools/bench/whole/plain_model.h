@@ -1,6 +1,7 @@
 /* The plain program for one model, KIND and WEIGHT: each combination is looked up by a binary search in the row so far, and added or
-   put in. With SHORTCUTS it does what the engine does: it looks first at the place of the last term merged, then at the next one, and
-   goes no further with arms whose product weighs nothing. */
+   put in. With SHORTCUTS it does what the engine does: it looks first where the last performance of that slot was merged, then at the next
+   place; goes no further with arms whose product weighs nothing; takes arm c of a bridge last; and holds back like performances that
+   follow one another, to sum their weights up before they are multiplied. */
 #define OF(name) GLUE(name, KIND)
 #define TERM OF(Term)
 #define ROW OF(Row)
@@ -8,22 +9,24 @@
 #define SUM GLUE(sum, WEIGHT)
 #define NONE GLUE(none, WEIGHT)
 
-#ifdef SHORTCUTS
-#define STOPS(weight) ((weight) == NONE)
-#else
-#define STOPS(weight) 0
-#endif
-
 typedef struct { KIND p; u32 w; } TERM;
-typedef struct { size_t len, last; TERM terms[ROOM]; } ROW;
+typedef struct { size_t len; uint8_t seen[256]; TERM terms[ROOM]; } ROW;
+
+static inline void OF(empty)(ROW *row) {
+  row->len = 0;
+#ifdef SHORTCUTS
+  memset(row->seen, 0, sizeof row->seen);
+#endif
+}
 
 /* Answers 0 where the row grows too long. */
 static int OF(merge)(ROW *row, KIND p, u32 w) {
 #ifdef SHORTCUTS
-  for (size_t at = row->last; at < row->len && at < row->last + 2; at++)
+  uint8_t *seen = &row->seen[OF(slot)(p)];
+  for (size_t at = *seen; at < row->len && at < *seen + 2u; at++)
     if (OF(order)(row->terms[at].p, p) == 0) {
       row->terms[at].w = SUM(row->terms[at].w, w);
-      row->last = at;
+      *seen = (uint8_t)at;
       return 1;
     }
 #endif
@@ -33,7 +36,9 @@ static int OF(merge)(ROW *row, KIND p, u32 w) {
     size_t middle = low + (high - low) / 2;
     if (OF(order)(row->terms[middle].p, p) < 0) low = middle + 1; else high = middle;
   }
-  row->last = low;
+#ifdef SHORTCUTS
+  *seen = (uint8_t)low;
+#endif
   if (low < row->len && OF(order)(row->terms[low].p, p) == 0) {
     row->terms[low].w = SUM(row->terms[low].w, w);
     return 1;
@@ -45,8 +50,56 @@ static int OF(merge)(ROW *row, KIND p, u32 w) {
   return 1;
 }
 
+#ifdef SHORTCUTS
+/* Goes through the terms of a list, with `joined` an expression in `x`, the performance of a term, and `weight` that of what is before. */
+#define EACH(row, weight, list, joined)                                                     \
+  do {                                                                                      \
+    if ((weight) == NONE || !(list)->len) break;                                            \
+    KIND x = (list)->terms[0].p;                                                            \
+    TERM held = {joined, (list)->terms[0].w};                                               \
+    for (size_t each = 1; each < (list)->len; each++) {                                     \
+      x = (list)->terms[each].p;                                                            \
+      KIND now = joined;                                                                    \
+      if (OF(order)(now, held.p) == 0) held.w = SUM(held.w, (list)->terms[each].w);         \
+      else {                                                                                \
+        if (!OF(merge)(row, held.p, TIMES(weight, held.w))) return 0;                       \
+        held = (TERM){now, (list)->terms[each].w};                                          \
+      }                                                                                     \
+    }                                                                                       \
+    if (!OF(merge)(row, held.p, TIMES(weight, held.w))) return 0;                           \
+  } while (0)
+
+static int OF(join)(char letter, const ROW *xs, const ROW *ys, ROW *row) {
+  OF(empty)(row);
+  for (size_t i = 0; i < xs->len; i++) {
+    TERM s = xs->terms[i];
+    if (letter == 'S') EACH(row, s.w, ys, OF(series)(s.p, x));
+    else EACH(row, s.w, ys, OF(parallel)(s.p, x));
+  }
+  return 1;
+}
+
+static int OF(cross)(const ROW *a, const ROW *b, const ROW *c, const ROW *d, const ROW *e, ROW *row) {
+  OF(empty)(row);
+  for (size_t i = 0; i < a->len; i++)
+    for (size_t j = 0; j < b->len; j++) {
+      u32 ab = TIMES(a->terms[i].w, b->terms[j].w);
+      if (ab == NONE) continue;
+      for (size_t k = 0; k < d->len; k++) {
+        u32 abd = TIMES(ab, d->terms[k].w);
+        if (abd == NONE) continue;
+        for (size_t l = 0; l < e->len; l++) {
+          u32 abde = TIMES(abd, e->terms[l].w);
+          EACH(row, abde, c, OF(bridge)(a->terms[i].p, b->terms[j].p, x, d->terms[k].p, e->terms[l].p));
+        }
+      }
+    }
+  return 1;
+}
+#undef EACH
+#else
 static int OF(join)(char letter, const ROW *x, const ROW *y, ROW *row) {
-  row->len = row->last = 0;
+  OF(empty)(row);
   for (size_t i = 0; i < x->len; i++)
     for (size_t j = 0; j < y->len; j++) {
       TERM s = x->terms[i], t = y->terms[j];
@@ -57,26 +110,20 @@ static int OF(join)(char letter, const ROW *x, const ROW *y, ROW *row) {
 }
 
 static int OF(cross)(const ROW *a, const ROW *b, const ROW *c, const ROW *d, const ROW *e, ROW *row) {
-  row->len = row->last = 0;
+  OF(empty)(row);
   for (size_t i = 0; i < a->len; i++)
-    for (size_t j = 0; j < b->len; j++) {
-      u32 ab = TIMES(a->terms[i].w, b->terms[j].w);
-      if (STOPS(ab)) continue;
-      for (size_t k = 0; k < c->len; k++) {
-        u32 abc = TIMES(ab, c->terms[k].w);
-        if (STOPS(abc)) continue;
+    for (size_t j = 0; j < b->len; j++)
+      for (size_t k = 0; k < c->len; k++)
         for (size_t l = 0; l < d->len; l++) {
-          u32 abcd = TIMES(abc, d->terms[l].w);
-          if (STOPS(abcd)) continue;
+          u32 abcd = TIMES(TIMES(TIMES(a->terms[i].w, b->terms[j].w), c->terms[k].w), d->terms[l].w);
           for (size_t m = 0; m < e->len; m++) {
             KIND p = OF(bridge)(a->terms[i].p, b->terms[j].p, c->terms[k].p, d->terms[l].p, e->terms[m].p);
             if (!OF(merge)(row, p, TIMES(abcd, e->terms[m].w))) return 0;
           }
         }
-      }
-    }
   return 1;
 }
+#endif
 
 static int64_t OF(analyse)(const uint8_t *model, uint8_t *output) {
   ROW rows[NODES], work;
@@ -89,7 +136,7 @@ static int64_t OF(analyse)(const uint8_t *model, uint8_t *output) {
     const uint8_t *body = at + 2;
     ROW *row = &rows[k];
     if (letter == 'P') {
-      row->len = row->last = 0;
+      OF(empty)(row);
       for (size_t i = 0; i < count; i++) {
         words_at(body + 16 * i, w);
         if (!OF(merge)(row, FROM_WORDS(KIND)(w), weight_at(body + 16 * i))) return TOO_LONG;
@@ -132,6 +179,5 @@ static int64_t OF(analyse)(const uint8_t *model, uint8_t *output) {
 #undef TIMES
 #undef SUM
 #undef NONE
-#undef STOPS
 #undef KIND
 #undef WEIGHT
