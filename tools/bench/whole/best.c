@@ -1,7 +1,7 @@
 /* The job of the engine as fast as we could make it in C: the same call, with no faults told.
 
-   A performance is a whole number here, a key, whose order is that of the kind. Every model has loops of its own. In a bridge, what arms a to d
-   settle is worked out before arm e is gone through. Like performances that follow one another are held back: their weights are
+   A performance is a whole number here, a key, whose order is that of the kind. Every model has loops of its own. In a bridge, what arms a, b, d
+   and e settle is worked out before arm c is gone through. Like performances that follow one another are held back: their weights are
    summed up first, and then multiplied once, since products distribute over sums. Sums of parts are capped only at the end. A
    performance is looked up by its low bits in a table of 256 places, and what is found is sorted at the end. */
 #include <string.h>
@@ -25,52 +25,46 @@ static inline u64 min(u64 a, u64 b) { return a < b ? a : b; }
 #define Scenarios_SUM(a, b) ((a) | (b))
 #define Effort_SUM(a, b) min(a, b)
 
-/* In every numeric kind the bridge is, for arms a to d that are picked, the smaller of `most` and e + `more`. */
+/* In every numeric kind the bridge is, for arms a, b, d and e that are picked, the smaller of `most` and c + `more`. */
 typedef struct { u64 most, more; } Line;
 
-static inline Line flow_line(u64 a, u64 b, u64 c, u64 d) { return (Line){min(min(a + b, b + c + d), TOP), min(d, a + c)}; }
-static inline Line delay_line(u64 a, u64 b, u64 c, u64 d) { return (Line){min(min(a + d, b + c + d), TOP), min(b, a + c)}; }
+static inline Line flow_line(u64 a, u64 b, u64 d, u64 e) { return (Line){min(min(a + b, d + e), TOP), min(a + e, b + d)}; }
+static inline Line delay_line(u64 a, u64 b, u64 d, u64 e) { return (Line){min(min(a + d, b + e), TOP), min(a + e, b + d)}; }
 
-/* With out: the same for an e that works, in keys; and the key for an e that is out. Where arm e does not matter, `more` is as large as can be. */
+/* With out: the same for a c that works, in keys; and the key for a c that is out. Where arm c does not matter, `more` is as large as can be. */
 typedef struct { u64 most, more, out; } OutLine;
 
-static inline OutLine always(u64 key) { return (OutLine){key, TOP + 1ull, key}; }
+static inline OutLine always(u64 key, u64 out) { return (OutLine){key, TOP + 1ull, out}; }
 static inline OutLine below(u64 most, u64 more, u64 out) { return (OutLine){min(most, TOP) + 1, more, out}; }
 static inline u64 working(u64 number) { return min(number, TOP) + 1; }
 
-static inline OutLine flow_out_line(u64 ka, u64 kb, u64 kc, u64 kd) {
-  u64 a = ka - 1, b = kb - 1, c = kc - 1, d = kd - 1;
-  if (!kc) {
-    int upper = ka && kd;
-    u64 ad = min(a, d);
-    if (!kb) return always(upper ? ad + 1 : 0);
-    return upper ? below(ad + b, ad, ad + 1) : below(b, 0, 0);
-  }
+static inline OutLine flow_out_line(u64 ka, u64 kb, u64 kd, u64 ke) {
+  u64 a = ka - 1, b = kb - 1, d = kd - 1, e = ke - 1;
+  u64 ad = min(ka, kd), be = min(kb, ke), out = !ad ? be : !be ? ad : working(ad + be - 2);
   if (!ka) {
-    if (!kb) return always(0);
-    return kd ? below(b, min(c, d), working(min(b, min(c, d)))) : below(b, 0, 0);
+    if (!kb || (!kd && !ke)) return always(0, 0);
+    if (!kd) return always(be, out);
+    return ke ? below(min(b, d + e), e, out) : below(min(b, d), 0, out);
   }
-  if (!kb) return kd ? below(min(a, d + c), d, min(a, d) + 1) : below(min(a, c), 0, 0);
-  if (!kd) return below(min(a, c) + b, 0, 0);
-  Line line = flow_line(a, b, c, d);
-  return below(line.most, line.more, working(min(a + min(b, c), d)));
+  if (!kb) {
+    if (!kd && !ke) return always(0, 0);
+    if (!ke) return always(ad, out);
+    return kd ? below(min(a, d + e), d, out) : below(min(a, e), 0, out);
+  }
+  if (!kd) return ke ? below(min(a + b, e), b, out) : always(0, 0);
+  if (!ke) return below(min(a + b, d), a, out);
+  Line line = flow_line(a, b, d, e);
+  return below(line.most, line.more, out);
 }
 
-static inline OutLine delay_out_line(u64 ka, u64 kb, u64 kc, u64 kd) {
-  u64 a = ka - 1, b = kb - 1, c = kc - 1, d = kd - 1;
-  if (!kc) {
-    int upper = ka && kd;
-    if (!kb) return always(upper ? working(a + d) : 0);
-    return upper ? below(a + d, b, working(a + d)) : below(TOP, b, 0);
-  }
-  if (!ka) {
-    if (!kb) return always(0);
-    return kd ? below(b + c + d, b, working(b + c + d)) : below(TOP, b, 0);
-  }
-  if (!kb) return kd ? below(a + d, a + c, working(a + d)) : below(TOP, a + c, 0);
-  if (!kd) return below(TOP, min(a + c, b), 0);
-  Line line = delay_line(a, b, c, d);
-  return below(line.most, line.more, working(min(a, b + c) + d));
+/* An arm that is out is later than any that works. */
+#define LATE (1ull << 40)
+
+static inline OutLine delay_out_line(u64 ka, u64 kb, u64 kd, u64 ke) {
+  u64 a = ka ? ka - 1 : LATE, b = kb ? kb - 1 : LATE, d = kd ? kd - 1 : LATE, e = ke ? ke - 1 : LATE;
+  u64 straight = min(a + d, b + e), crossed = min(a + e, b + d), out = straight < LATE ? working(straight) : 0;
+  if (crossed >= LATE) return always(out, out);
+  return below(straight, crossed, out);
 }
 
 #define KIND Flow
@@ -79,8 +73,8 @@ static inline OutLine delay_out_line(u64 ka, u64 kb, u64 kc, u64 kd) {
 #define KEYS word
 #define SERIES(x, y) least(x, y)
 #define PARALLEL(x, y) cap((u64)(x) + (y))
-#define SETTLED(a, b, c, d) Line line = flow_line(a, b, c, d)
-#define BRIDGE(e) (u32)min(line.most, e + line.more)
+#define SETTLED(a, b, d, e) Line line = flow_line(a, b, d, e)
+#define BRIDGE(c) (u32)min(line.most, c + line.more)
 #include "best_model.h"
 
 #define KIND Delay
@@ -89,8 +83,8 @@ static inline OutLine delay_out_line(u64 ka, u64 kb, u64 kc, u64 kd) {
 #define KEYS word
 #define SERIES(x, y) cap((u64)(x) + (y))
 #define PARALLEL(x, y) least(x, y)
-#define SETTLED(a, b, c, d) Line line = delay_line(a, b, c, d)
-#define BRIDGE(e) (u32)min(line.most, e + line.more)
+#define SETTLED(a, b, d, e) Line line = delay_line(a, b, d, e)
+#define BRIDGE(c) (u32)min(line.most, c + line.more)
 #include "best_model.h"
 
 #define KIND FaultSet
@@ -99,8 +93,8 @@ static inline OutLine delay_out_line(u64 ka, u64 kb, u64 kc, u64 kd) {
 #define KEYS word
 #define SERIES(x, y) ((x) | (y))
 #define PARALLEL(x, y) ((x) & (y))
-#define SETTLED(a, b, c, d) u32 most = (a | d) & (b | c | d), more = b & (a | c)
-#define BRIDGE(e) (most & (e | more))
+#define SETTLED(a, b, d, e) u32 most = (a | d) & (b | e), more = (a | e) & (b | d)
+#define BRIDGE(c) (most & (c | more))
 #include "best_model.h"
 
 #define KIND FirstFault
@@ -109,10 +103,8 @@ static inline OutLine delay_out_line(u64 ka, u64 kb, u64 kc, u64 kd) {
 #define KEYS word
 #define SERIES(x, y) ((x) ? (x) : (y))
 #define PARALLEL(x, y) ((x) && (y) ? (x) : 0)
-#define SETTLED(a, b, c, d) \
-  u32 fault = (b | c | d) ? (a ? a : d) : 0; \
-  u32 whatever = b && (a | c)
-#define BRIDGE(e) ((e | whatever) ? fault : 0)
+#define SETTLED(a, b, d, e) u32 fault = (b | e) ? (a ? a : d) : 0, whatever = (a | e) && (b | d)
+#define BRIDGE(c) ((c | whatever) ? fault : 0)
 #include "best_model.h"
 
 #define KIND Pair
@@ -124,8 +116,8 @@ static inline OutLine delay_out_line(u64 ka, u64 kb, u64 kc, u64 kd) {
 #define BOTH(x, y) ((u64)(x) << 32 | (y))
 #define SERIES(x, y) BOTH(min(HIGH(x) + HIGH(y), TOP), min(LOW(x), LOW(y)))
 #define PARALLEL(x, y) BOTH(min(HIGH(x), HIGH(y)), min(LOW(x) + LOW(y), TOP))
-#define SETTLED(a, b, c, d) Line high = delay_line(HIGH(a), HIGH(b), HIGH(c), HIGH(d)), low = flow_line(LOW(a), LOW(b), LOW(c), LOW(d))
-#define BRIDGE(e) BOTH(min(high.most, HIGH(e) + high.more), min(low.most, LOW(e) + low.more))
+#define SETTLED(a, b, d, e) Line high = delay_line(HIGH(a), HIGH(b), HIGH(d), HIGH(e)), low = flow_line(LOW(a), LOW(b), LOW(d), LOW(e))
+#define BRIDGE(c) BOTH(min(high.most, HIGH(c) + high.more), min(low.most, LOW(c) + low.more))
 #include "best_model.h"
 
 #define KIND FlowOrOut
@@ -134,8 +126,8 @@ static inline OutLine delay_out_line(u64 ka, u64 kb, u64 kc, u64 kd) {
 #define KEYS out
 #define SERIES(x, y) min(x, y)
 #define PARALLEL(x, y) (!(x) ? (y) : !(y) ? (x) : working((x) + (y) - 2))
-#define SETTLED(a, b, c, d) OutLine line = flow_out_line(a, b, c, d)
-#define BRIDGE(e) (e ? min(line.most, e + line.more) : line.out)
+#define SETTLED(a, b, d, e) OutLine line = flow_out_line(a, b, d, e)
+#define BRIDGE(c) (c ? min(line.most, c + line.more) : line.out)
 #include "best_model.h"
 
 #define KIND DelayOrOut
@@ -144,8 +136,8 @@ static inline OutLine delay_out_line(u64 ka, u64 kb, u64 kc, u64 kd) {
 #define KEYS out
 #define SERIES(x, y) ((x) && (y) ? working((x) + (y) - 2) : 0)
 #define PARALLEL(x, y) (!(x) ? (y) : !(y) ? (x) : min(x, y))
-#define SETTLED(a, b, c, d) OutLine line = delay_out_line(a, b, c, d)
-#define BRIDGE(e) (e ? min(line.most, e + line.more) : line.out)
+#define SETTLED(a, b, d, e) OutLine line = delay_out_line(a, b, d, e)
+#define BRIDGE(c) (c ? min(line.most, c + line.more) : line.out)
 #include "best_model.h"
 
 #include "call.h"

@@ -1,5 +1,5 @@
 /* The best program for one model: KIND and WEIGHT; KEY, the type of its keys, and KEYS, the name of their form; SERIES and PARALLEL of two keys;
-   SETTLED, what arms a to d settle, and BRIDGE, the key for an e. */
+   SETTLED, what arms a, b, d and e settle, and BRIDGE, the key for a c. */
 #define OF(name) GLUE(name, KIND)
 #define ROW OF(Row)
 #define TABLE OF(Table)
@@ -100,19 +100,19 @@ static int OF(join)(char letter, const ROW *xs, const ROW *ys, ROW *row) {
 static int OF(cross)(const ROW *as, const ROW *bs, const ROW *cs, const ROW *ds, const ROW *es, ROW *row) {
   TABLE table;
   OF(clear)(&table);
-  for (size_t i = 0; es->len && i < as->len; i++)
+  for (size_t i = 0; cs->len && i < as->len; i++)
     for (size_t j = 0; j < bs->len; j++) {
       u32 ab = TIMES(as->weight[i], bs->weight[j]);
       if (ab == NONE) continue;
-      for (size_t k = 0; k < cs->len; k++) {
-        u32 abc = TIMES(ab, cs->weight[k]);
-        if (abc == NONE) continue;
-        for (size_t l = 0; l < ds->len; l++) {
-          u32 abcd = TIMES(abc, ds->weight[l]);
-          if (abcd == NONE) continue;
-          KEY a = as->key[i], b = bs->key[j], c = cs->key[k], d = ds->key[l];
-          SETTLED(a, b, c, d);
-          EACH(&table, abcd, es, BRIDGE(x));
+      for (size_t k = 0; k < ds->len; k++) {
+        u32 abd = TIMES(ab, ds->weight[k]);
+        if (abd == NONE) continue;
+        for (size_t l = 0; l < es->len; l++) {
+          u32 abde = TIMES(abd, es->weight[l]);
+          if (abde == NONE) continue;
+          KEY a = as->key[i], b = bs->key[j], d = ds->key[k], e = es->key[l];
+          SETTLED(a, b, d, e);
+          EACH(&table, abde, cs, BRIDGE(x));
         }
       }
     }

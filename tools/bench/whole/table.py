@@ -3,7 +3,8 @@
 
     python3 table.py PROGRAMS MODELS [TURNS]
 
-PROGRAMS is a folder with the programs engine, plain, same and best, MODELS the folder that write.py wrote.
+PROGRAMS is a folder with the programs engine, plain, same and best, each linked twice, as engine-0 and engine-16; MODELS is the folder that
+write.py wrote.
 """
 
 import subprocess
@@ -22,6 +23,7 @@ NAMES = {
     7: "delay-or-out, parts",
 }
 C_PROGRAMS = ("engine", "plain", "same", "best")
+LINKS = ("0", "16")  # how many bytes further the code lies
 SECONDS = "0.1"  # a program calls for so long at least, and three times at least
 # Begun by a shell, since a process inherits the peak of the one that it was before: a shell has less than any of these.
 BY_SHELL = ["sh", "-c", '"$@"; exit $?', "sh"]
@@ -37,9 +39,13 @@ class Figures:
     def run(self, name, program):
         file = str(self.models / f"{name}.model")
         if program == "python":
-            command = [sys.executable, str(Path(__file__).with_name("other.py")), file]
-        else:
-            command = [str(self.programs / program), file, SECONDS]
+            return self.call(name, program, [sys.executable, str(Path(__file__).with_name("other.py")), file])
+        reports = {self.call(name, program, [str(self.programs / f"{program}-{link}"), file, SECONDS]) for link in LINKS}
+        if len(reports) > 1:
+            sys.exit(f"the reports of {program} on {name} differ")
+        return reports.pop()
+
+    def call(self, name, program, command):
         printed = subprocess.run(BY_SHELL + command, check=True, stdout=subprocess.PIPE).stdout
         figures, report = printed.split(b"\n", 1)
         took, _, peak = map(int, figures.split())
