@@ -125,53 +125,21 @@ static int OF(cross)(const ROW *a, const ROW *b, const ROW *c, const ROW *d, con
 }
 #endif
 
-static int64_t OF(analyse)(const uint8_t *model, uint8_t *output) {
-  ROW rows[NODES], work;
-  size_t nodes = model[1] - 1u;
-  const uint8_t *at = model + 2;
+static int OF(part)(const uint8_t *body, size_t count, ROW *row) {
   u32 w[2];
-  for (size_t k = 0; k < nodes; k++) {
-    char letter = (char)at[0];
-    size_t count = at[1];
-    const uint8_t *body = at + 2;
-    ROW *row = &rows[k];
-    if (letter == 'P') {
-      OF(empty)(row);
-      for (size_t i = 0; i < count; i++) {
-        words_at(body + 16 * i, w);
-        if (!OF(merge)(row, FROM_WORDS(KIND)(w), weight_at(body + 16 * i))) return TOO_LONG;
-      }
-      at = body + 16 * count;
-      continue;
-    }
-    if (letter == 'B') {
-      if (!OF(cross)(&rows[body[0]], &rows[body[1]], &rows[body[2]], &rows[body[3]], &rows[body[4]], row)) return TOO_LONG;
-    } else {
-      *row = rows[body[0]];
-      for (size_t i = 1; i < count; i++) {
-        if (!OF(join)(letter, row, &rows[body[i]], &work)) return TOO_LONG;
-        *row = work;
-      }
-    }
-    at = body + count;
+  OF(empty)(row);
+  for (size_t i = 0; i < count; i++) {
+    words_at(body + 16 * i, w);
+    if (!OF(merge)(row, FROM_WORDS(KIND)(w), weight_at(body + 16 * i))) return 0;
   }
-  const ROW *row = &rows[nodes - 1];
-  uint8_t *to = output;
-  for (size_t i = 0; i < at[1]; i++) {
-    words_at(at + 2 + 8 * i, w);
-    u32 met = NONE, all = NONE;
-    for (size_t j = 0; j < row->len; j++) {
-      all = SUM(all, row->terms[j].w);
-      if (OF(meets)(row->terms[j].p, FROM_WORDS(KIND)(w))) met = SUM(met, row->terms[j].w);
-    }
-    to = put_need(to, w, met, all);
-  }
-  for (size_t j = 0; j < row->len; j++) {
-    TO_WORDS(KIND)(row->terms[j].p, w);
-    to = put_term(to, w, row->terms[j].w);
-  }
-  return to - output;
+  return 1;
 }
+
+static inline u32 OF(weight)(const ROW *row, size_t j) { return row->terms[j].w; }
+static inline void OF(words)(const ROW *row, size_t j, u32 *w) { TO_WORDS(KIND)(row->terms[j].p, w); }
+static inline int OF(met)(const ROW *row, size_t j, const u32 *w) { return OF(meets)(row->terms[j].p, FROM_WORDS(KIND)(w)); }
+
+#include "nodes.h"
 
 #undef OF
 #undef TERM

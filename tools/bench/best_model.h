@@ -5,7 +5,6 @@
 #define TABLE OF(Table)
 #define TIMES GLUE(times, WEIGHT)
 #define SUM GLUE(WEIGHT, SUM)
-#define CAPPED_SUM GLUE(sum, WEIGHT)
 #define NONE GLUE(none, WEIGHT)
 
 typedef struct { size_t len; KEY key[ROOM]; u32 weight[ROOM]; } ROW;
@@ -119,63 +118,32 @@ static int OF(cross)(const ROW *as, const ROW *bs, const ROW *cs, const ROW *ds,
   return OF(sorted)(&table, row);
 }
 
-static int64_t OF(analyse)(const uint8_t *model, uint8_t *output) {
-  ROW rows[NODES], work;
-  size_t nodes = model[1] - 1u;
-  const uint8_t *at = model + 2;
+static int OF(part)(const uint8_t *body, size_t count, ROW *row) {
+  TABLE table;
   u32 w[2];
-  for (size_t k = 0; k < nodes; k++) {
-    char letter = (char)at[0];
-    size_t count = at[1];
-    const uint8_t *body = at + 2;
-    if (letter == 'P') {
-      TABLE table;
-      OF(clear)(&table);
-      for (size_t i = 0; i < count; i++) {
-        words_at(body + 16 * i, w);
-        OF(add)(&table, GLUE(KEYS, key)(w), weight_at(body + 16 * i));
-      }
-      OF(sorted)(&table, &rows[k]);
-      at = body + 16 * count;
-      continue;
-    }
-    if (letter == 'B') {
-      if (!OF(cross)(&rows[body[0]], &rows[body[1]], &rows[body[2]], &rows[body[3]], &rows[body[4]], &rows[k])) return TOO_LONG;
-    } else {
-      const ROW *left = &rows[body[0]];
-      for (size_t i = 1; i < count; i++) {
-        ROW *into = (count - i) % 2 ? &rows[k] : &work;
-        if (!OF(join)(letter, left, &rows[body[i]], into)) return TOO_LONG;
-        left = into;
-      }
-    }
-    at = body + count;
+  OF(clear)(&table);
+  for (size_t i = 0; i < count; i++) {
+    words_at(body + 16 * i, w);
+    OF(add)(&table, GLUE(KEYS, key)(w), weight_at(body + 16 * i));
   }
-  const ROW *row = &rows[nodes - 1];
-  uint8_t *to = output;
-  for (size_t i = 0; i < at[1]; i++) {
-    u32 met = NONE, all = NONE, v[2];
-    words_at(at + 2 + 8 * i, w);
-    for (size_t j = 0; j < row->len; j++) {
-      GLUE(KEYS, words)(row->key[j], v);
-      all = CAPPED_SUM(all, row->weight[j]);
-      if (OF(meets)(FROM_WORDS(KIND)(v), FROM_WORDS(KIND)(w))) met = CAPPED_SUM(met, row->weight[j]);
-    }
-    to = put_need(to, w, met, all);
-  }
-  for (size_t j = 0; j < row->len; j++) {
-    GLUE(KEYS, words)(row->key[j], w);
-    to = put_term(to, w, row->weight[j]);
-  }
-  return to - output;
+  return OF(sorted)(&table, row);
 }
+
+static inline u32 OF(weight)(const ROW *row, size_t j) { return row->weight[j]; }
+static inline void OF(words)(const ROW *row, size_t j, u32 *w) { GLUE(KEYS, words)(row->key[j], w); }
+static inline int OF(met)(const ROW *row, size_t j, const u32 *w) {
+  u32 v[2];
+  OF(words)(row, j, v);
+  return OF(meets)(FROM_WORDS(KIND)(v), FROM_WORDS(KIND)(w));
+}
+
+#include "nodes.h"
 
 #undef OF
 #undef ROW
 #undef TABLE
 #undef TIMES
 #undef SUM
-#undef CAPPED_SUM
 #undef NONE
 #undef EACH
 #undef KIND

@@ -11,7 +11,7 @@ import sys
 from pathlib import Path
 from time import perf_counter_ns
 
-sys.path.insert(0, str(Path(__file__).resolve().parents[2] / "other"))
+sys.path.insert(0, str(Path(__file__).resolve().parents[1] / "other"))
 from files import answer
 from rows import Finder
 

@@ -15,7 +15,7 @@ tree      five bridges of SIZE terms an arm, a bridge of these five, and beside 
 import sys
 from pathlib import Path
 
-sys.path.insert(0, str(Path(__file__).resolve().parents[2] / "other"))
+sys.path.insert(0, str(Path(__file__).resolve().parents[1] / "other"))
 from files import file_of, joined, needs, part
 
 TOP = 4294967295
