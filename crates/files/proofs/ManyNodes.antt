@@ -100,7 +100,7 @@ module _ {P W : Type 0} (kind : Performance.Ghosts P) (weights : Weight.Ghosts W
 
           -- whatever the record is, only the places of the file's nodes may change
           pub node_kept : {r : Result X Fault} → Drawn d s r d' s' k rest → Kept (λ j. j < n) s s'
-          node_kept (inl (headed, (inl (whole, (inl (ahead, (m, rest, e, reply, taken, passed))))))) = within m reply taken
+          node_kept (inl (headed, (inl (whole, (inl (ahead, (m, rest, e, (reply, taken, passed)))))))) = within m reply taken
           node_kept (inl (headed, (inl (whole, (inr (none, gone)))))) = kept_same gone.store
           node_kept (inl (headed, (inr (cut, gone)))) = kept_same gone.store
           node_kept (inr (other, gone)) = kept_same gone.store
@@ -126,9 +126,9 @@ module _ {P W : Type 0} (kind : Performance.Ghosts P) (weights : Weight.Ghosts W
                   }
 
               at : Drawn d s (Ok x) d' s' k rest → SoFar lent n bytes (k + 1) (shown x) d' s'
-              at (inl (headed, (inl (whole, (inl (ahead, (m, left, e, Ok a, taken, same))))))) =
+              at (inl (headed, (inl (whole, (inl (ahead, (m, left, e, (Ok a, taken, same)))))))) =
                   on m left a e same taken (λ answer took y. inl (headed, inl (whole, inl (ahead, (m, left, e, inl (took, y))))))
-              at (inl (headed, (inl (whole, (inl (ahead, (m, left, e, Err why, taken, other))))))) = absurd (not_both other)
+              at (inl (headed, (inl (whole, (inl (ahead, (m, left, e, (Err why, taken, other)))))))) = absurd (not_both other)
               at (inl (headed, (inl (whole, (inr (none, gone)))))) = absurd (not_both gone.answer)
               at (inl (headed, (inr (cut, gone)))) = absurd (not_both gone.answer)
               at (inr (other, gone)) = absurd (not_both gone.answer)
@@ -140,9 +140,9 @@ module _ {P W : Type 0} (kind : Performance.Ghosts P) (weights : Weight.Ghosts W
               placed f e = ap Err (fault_same e) ∙ ap (λ j. Err (f j)) (sym far.many)
 
               at : Drawn d s (Err why) d' s' k rest → Left (suc (n - (k + 1))) far.nodes rest (Err why)
-              at (inl (headed, (inl (whole, (inl (ahead, (m, left, e, Err refusal, taken, same))))))) =
+              at (inl (headed, (inl (whole, (inl (ahead, (m, left, e, (Err refusal, taken, same)))))))) =
                   inl (headed, inl (whole, inl (ahead, (m, left, e, inr (refusal, (called m (Err refusal) taken).0, placed (λ j. Refused j refusal) same)))))
-              at (inl (headed, (inl (whole, (inl (ahead, (m, left, e, Ok a, taken, other))))))) = absurd other
+              at (inl (headed, (inl (whole, (inl (ahead, (m, left, e, (Ok a, taken, other)))))))) = absurd other
               at (inl (headed, (inl (whole, (inr (none, gone)))))) = inl (headed, inl (whole, inr (none, placed Value gone.answer)))
               at (inl (headed, (inr (cut, gone)))) = inl (headed, inr (cut, placed Body gone.answer))
               at (inr (other, gone)) = inr (other, placed Letter gone.answer)

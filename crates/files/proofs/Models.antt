@@ -1,23 +1,26 @@
 -- From the records of a file to the whole of what was read.
-use Rattle.std.proofs.Common.{◌≡◌, ℕ, ◌-◌, ◌≤◌, List, [], ◌∷◌, length, get_or, take, drop, Result, Ok, Err, IsErrAnd, flat_map, sym, ◌∙◌, ap, refl, subst, inl, inr, arith}
+use Rattle.std.proofs.Common.{◌≡◌, ℕ, ◌-◌, ◌≤◌, List, [], ◌∷◌, ◌++◌, length, get_or, take, drop, Result, Ok, Err, IsErrAnd, flat_map, append-nil, sym, ◌∙◌, ap, refl, subst, inl, inr, arith}
 use Rattle.std.proofs.Math.Seq.{take-length}
+use Rattle.std.proofs.lemmas.List.{take_rest}
 use Rattle.kinds.specs.declared.performance.Performance
 use Rattle.kinds.specs.declared.weight.Weight
 use Rattle.terms.specs.declared.term.Term.{Term}
 use Rattle.diagram.specs.declared.diagram.Diagram.{Diagram}
 use Rattle.diagram.specs.Histories.{Making}
 use Rattle.diagram.specs.Runs.{Run}
+use Rattle.diagram.proofs.Asking.{yes}
 use Rattle.files.specs.declared.value.FilePerformance
 use Rattle.files.specs.declared.value.FileWeight
 use Rattle.files.specs.declared.fault.Fault.{Fault}
 use Rattle.files.specs.declared.fault.Fault.TheVariants.{Records}
 use Rattle.files.specs.declared.model.Model.{Model}
-use Rattle.files.specs.Contents.{Contents, performance_bytes}
+use Rattle.files.specs.Contents.{Contents, demand_letter, performance_bytes, demand_bytes}
 use Rattle.files.specs.Drawn.{history_of}
-use Rattle.files.specs.Reading.{Counted, DemandsRead}
+use Rattle.files.specs.Reading.{Counted, DemandLetter, Headed, Whole, RecordsRead}
 use Rattle.files.specs.Models.{ReadInto}
-use Rattle.files.specs.Steps.{LastRecord, NodesDrawn}
+use Rattle.files.specs.Steps.{DemandsHandedOn, NodesDrawn}
 use Rattle.files.proofs.Analysing.{not_both, fault_same}
+use Rattle.files.proofs.Writing.{demands_whole}
 
 pub counted : (bytes : List ℕ) → 1 ≤ length bytes → 2 ≤ get_or bytes 0 0 → get_or bytes 0 0 ≤ 49 → Counted bytes
 counted [] one few many = absurd (omega (arith, one))
@@ -31,6 +34,20 @@ after_first : (bytes : List ℕ) → take (length bytes - 1) (drop 1 bytes) ≡ 
 after_first [] = refl
 after_first (b ∷ bytes) = let all : length (b ∷ bytes) - 1 ≡ length bytes = omega arith in ap (λ n. take n bytes) all ∙ take-length bytes
 
+-- two bytes, and what follows them
+pub two_first : (bytes : List ℕ) → 2 ≤ length bytes → bytes ≡ get_or bytes 0 0 ∷ get_or bytes 1 0 ∷ take (length bytes - 2) (drop 2 bytes)
+two_first (a ∷ b ∷ rest) h = ap (λ z. a ∷ b ∷ z) (sym (take_rest (a ∷ b ∷ rest) 2))
+two_first _ h = absurd (omega (arith, h))
+
+module _ {P : Type 0} (file_kind : FilePerformance.Ghosts P) {X : Type 0} (shown : X → List ℕ) where
+  -- the body of the last record is handed on, if it writes its demands and nothing follows them
+  pub handed_on : {k : ℕ} {bytes : List ℕ} (demands : List P) (rest : List ℕ) (body : X) → (1 ≤ length demands) × (length demands ≤ 16) → bytes ≡ demand_letter ∷ length demands ∷ shown body →
+      shown body ≡ flat_map (performance_bytes file_kind) demands ++ rest → rest ≡ [] → DemandsHandedOn file_kind shown k bytes (Ok body)
+  handed_on {bytes = bytes} demands rest body few record_is body_is ends =
+      let e : bytes ≡ demand_bytes file_kind demands ++ rest = record_is ∙ ap (λ z. demand_letter ∷ length demands ∷ z) body_is in
+      let all = body_is ∙ ap (λ z. flat_map (performance_bytes file_kind) demands ++ z) ends ∙ append-nil (flat_map (performance_bytes file_kind) demands) in
+      yes (subst (Headed DemandLetter) (sym e) refl) (yes (subst Whole (sym e) (demands_whole file_kind demands rest few)) (yes (demands, rest, e) (demands, rest, e, yes ends all)))
+
 module _ {P W : Type 0} (kind : Performance.Ghosts P) (weights : Weight.Ghosts W) (file_kind : FilePerformance.Ghosts P) (file_weights : FileWeight.Ghosts W) where
   abbrev Terms : Type 0
   Terms = List (Term P W)
@@ -40,7 +57,7 @@ module _ {P W : Type 0} (kind : Performance.Ghosts P) (weights : Weight.Ghosts W
 
   module _ {X : Type 0} (shown : X → List ℕ) where
     -- the last record is refused: so are the contents
-    demands_refused : (ms : List (Making P W)) (bytes : List ℕ) (why : Fault) → LastRecord file_kind shown (length ms) bytes (Err why) → DemandsRead kind weights file_kind file_weights ms bytes (Err why)
+    demands_refused : (ms : List (Making P W)) (bytes : List ℕ) (why : Fault) → DemandsHandedOn file_kind shown (length ms) bytes (Err why) → RecordsRead kind weights file_kind file_weights 0 ms bytes (Err why)
     demands_refused ms bytes why (inl (headed, (inl (whole, (inl (ahead, (demands, rest, e, inl (ends, gone)))))))) = absurd gone
     demands_refused ms bytes why (inl (headed, (inl (whole, (inl (ahead, (demands, rest, e, inr (more, gone)))))))) =
         inl (headed, inl (whole, inl (ahead, (demands, rest, e, inr (more, ap Err (fault_same gone))))))
@@ -49,8 +66,8 @@ module _ {P W : Type 0} (kind : Performance.Ghosts P) (weights : Weight.Ghosts W
     demands_refused ms bytes why (inr (other, gone)) = inr (other, ap Err (fault_same gone))
 
     -- it is handed on: these are the demands
-    demands_taken : (ms : List (Making P W)) (bytes : List ℕ) (body : X) → LastRecord file_kind shown (length ms) bytes (Ok body) →
-        (demands : List P) × (shown body ≡ flat_map (performance_bytes file_kind) demands) × DemandsRead kind weights file_kind file_weights ms bytes (Ok (record { nodes = ms; demands = demands }))
+    demands_taken : (ms : List (Making P W)) (bytes : List ℕ) (body : X) → DemandsHandedOn file_kind shown (length ms) bytes (Ok body) →
+        (demands : List P) × (shown body ≡ flat_map (performance_bytes file_kind) demands) × RecordsRead kind weights file_kind file_weights 0 ms bytes (Ok (record { nodes = ms; demands = demands }))
     demands_taken ms bytes body (inl (headed, (inl (whole, (inl (ahead, (demands, rest, e, inl (ends, is)))))))) =
         (demands, is, inl (headed, inl (whole, inl (ahead, (demands, rest, e, inl (ends, refl))))))
     demands_taken ms bytes body (inl (headed, (inl (whole, (inl (ahead, (demands, rest, e, inr (more, gone)))))))) = absurd (not_both gone)
@@ -71,15 +88,15 @@ module _ {P W : Type 0} (kind : Performance.Ghosts P) (weights : Weight.Ghosts W
       drew : NodesDrawn kind weights file_kind file_weights shown (length s) (get_or bytes 0 0 - 1) (drop 1 bytes) (Ok last) d s'
       drew = subst (λ l. NodesDrawn kind weights file_kind file_weights shown (length s) (get_or bytes 0 0 - 1) l (Ok last) d s') (after_first bytes) drew'
 
-      pub last_refused : {r : Result (Model P W) Fault} (why : Fault) → IsErrAnd r (λ e. e ≡ why) → LastRecord file_kind shown (get_or bytes 0 0 - 1) (shown last) (Err why) → Into r
+      pub last_refused : {r : Result (Model P W) Fault} (why : Fault) → IsErrAnd r (λ e. e ≡ why) → DemandsHandedOn file_kind shown (get_or bytes 0 0 - 1) (shown last) (Err why) → Into r
       last_refused {r = Ok m} why e x = absurd e
       last_refused {r = Err f} why e x =
-          let x' = subst (λ k. LastRecord file_kind shown k (shown last) (Err why)) (sym drew.1) x in
+          let x' = subst (λ k. DemandsHandedOn file_kind shown k (shown last) (Err why)) (sym drew.1) x in
           inl (roomy, (Err why, inl (is, drew.4 (Err why) (demands_refused shown drew.0 (shown last) why x')), ap Err e))
 
-      pub all_read : (m : Model P W) (body : X) → m.diagram ≡ d → m.nodes ≡ get_or bytes 0 0 - 1 → m.demands.now ≡ shown body → LastRecord file_kind shown (get_or bytes 0 0 - 1) (shown last) (Ok body) → Into (Ok m)
+      pub all_read : (m : Model P W) (body : X) → m.diagram ≡ d → m.nodes ≡ get_or bytes 0 0 - 1 → m.demands.now ≡ shown body → DemandsHandedOn file_kind shown (get_or bytes 0 0 - 1) (shown last) (Ok body) → Into (Ok m)
       all_read m body same nodes demands x =
-          let x' = subst (λ k. LastRecord file_kind shown k (shown last) (Ok body)) (sym drew.1) x in
+          let x' = subst (λ k. DemandsHandedOn file_kind shown k (shown last) (Ok body)) (sym drew.1) x in
           let taken = demands_taken shown drew.0 (shown last) body x' in
           let c : Contents P W = record { nodes = drew.0; demands = taken.0 } in
           inl (roomy, (Ok c, inl (is, drew.4 (Ok c) taken.2), record { run = subst (λ z. Run kind weights (history_of (length s) drew.0) z s') (sym same) drew.3; nodes = nodes ∙ sym drew.1; demands = demands ∙ taken.1 }))

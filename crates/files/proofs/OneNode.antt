@@ -41,7 +41,7 @@ module _
   drawn : {s' : List (Term P W)} {bytes : List ℕ} (m : Making P W) (rest : List ℕ) → Headed NodeLetter bytes → Whole bytes → bytes ≡ node_bytes file_kind file_weights m ++ rest →
       (reply : Reply P W) → Performs kind weights (call_of m) t s reply t' s' → PassedOn kind weights file_kind file_weights shown t s r t' s' k rest reply →
       NodeDrawn kind weights file_kind file_weights shown t s r t' s' k bytes
-  drawn m rest headed whole e reply performed passed = yes headed (yes whole (yes (m, rest, e) (m, rest, e, reply, performed, passed)))
+  drawn m rest headed whole e reply performed passed = yes headed (yes whole (yes (m, rest, e) (m, rest, e, (reply, performed, passed))))
 
   -- so it is at each letter, if the body writes what the call is given
 

@@ -39,29 +39,36 @@ Whole (letter ∷ count ∷ body) =
     (letter ≡ bridge_letter → count ≡ 5) × (letter ≡ demand_letter → (1 ≤ count) × (count ≤ 16)) × (body_length letter count ≤ length body)
 Whole bytes = ⊥
 
+-- Record k is to write one value: first its letter is asked about, then whether it is whole, then whether its body writes a value. If each answer
+-- is yes, something is told of that value and of the bytes after it.
+abbrev pub RecordRead : {V : Type 0} → (ℕ → Type 0) → (V → List ℕ) → ℕ → List ℕ → (Fault → Type 0) → (V → List ℕ → Type 0) → Type 0
+RecordRead {V} IsRight write k bytes refused told =
+    Asked (Headed IsRight bytes) (refused (Letter k))
+    (Asked (Whole bytes) (refused (Body k))
+    (Asked (Ahead write bytes) (refused (Value k))
+    ((v : V) × (rest : List ℕ) × (bytes ≡ write v ++ rest) × told v rest)))
+
+-- a record that makes a node
+abbrev pub NodeRecord : {P W : Type 0} → FilePerformance.Ghosts P → FileWeight.Ghosts W → ℕ → List ℕ → (Fault → Type 0) → (Making P W → List ℕ → Type 0) → Type 0
+NodeRecord file_kind file_weights = RecordRead NodeLetter (node_bytes file_kind file_weights)
+
+-- the last record: the demands, and then the file is at its end
+abbrev pub LastRecord : {P : Type 0} → FilePerformance.Ghosts P → ℕ → List ℕ → (Fault → Type 0) → (List P → Type 0) → Type 0
+LastRecord file_kind k bytes refused told =
+    RecordRead DemandLetter (demand_bytes file_kind) k bytes refused (λ demands rest. Asked (rest ≡ []) (refused LeftOver) (told demands))
+
 module _ {P W : Type 0} (kind : Performance.Ghosts P) (weights : Weight.Ghosts W) (file_kind : FilePerformance.Ghosts P) (file_weights : FileWeight.Ghosts W) where
   abbrev Answer : Type 0
   Answer = Result (Contents P W) Fault
 
-  -- the last record, after these nodes: the demands, and then the file is at its end
-  abbrev pub DemandsRead : List (Making P W) → List ℕ → Answer → Type 0
-  DemandsRead ms bytes answer =
-      Asked (Headed DemandLetter bytes) (answer ≡ Err (Letter (length ms)))
-      (Asked (Whole bytes) (answer ≡ Err (Body (length ms)))
-      (Asked (Ahead (demand_bytes file_kind) bytes) (answer ≡ Err (Value (length ms)))
-      ((demands : List P) × (rest : List ℕ) × (bytes ≡ demand_bytes file_kind demands ++ rest) ×
-      Asked (rest ≡ []) (answer ≡ Err LeftOver)
-      (answer ≡ Ok (record { nodes = ms; demands = demands })))))
-
   -- so many records that make nodes, after these, and then the last
   abbrev pub RecordsRead : ℕ → List (Making P W) → List ℕ → Answer → Type 0
-  RecordsRead zero ms bytes answer = DemandsRead ms bytes answer
+  RecordsRead zero ms bytes answer =
+      LastRecord file_kind (length ms) bytes (λ why. answer ≡ Err why)
+      (λ demands. answer ≡ Ok (record { nodes = ms; demands = demands }))
   RecordsRead (suc n) ms bytes answer =
-      Asked (Headed NodeLetter bytes) (answer ≡ Err (Letter (length ms)))
-      (Asked (Whole bytes) (answer ≡ Err (Body (length ms)))
-      (Asked (Ahead (node_bytes file_kind file_weights) bytes) (answer ≡ Err (Value (length ms)))
-      ((m : Making P W) × (rest : List ℕ) × (bytes ≡ node_bytes file_kind file_weights m ++ rest) ×
-      TakenOr kind weights ms m (λ why. answer ≡ Err (Refused (length ms) why)) (RecordsRead n (m ∷ ms) rest answer))))
+      NodeRecord file_kind file_weights (length ms) bytes (λ why. answer ≡ Err why)
+      (λ m rest. TakenOr kind weights ms m (λ why. answer ≡ Err (Refused (length ms) why)) (RecordsRead n (m ∷ ms) rest answer))
 
   -- what a file says from the number of its records on: its contents, or its first fault
   abbrev pub ContentsRead : List ℕ → Answer → Type 0

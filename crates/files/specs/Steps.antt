@@ -6,7 +6,6 @@ use Rattle.terms.specs.declared.term.Term.{Term}
 use Rattle.diagram.specs.declared.table.Table.{Table}
 use Rattle.diagram.specs.declared.diagram.Diagram.{Diagram}
 use Rattle.diagram.specs.declared.node.Status.TheVariants.{UpToDate}
-use Rattle.diagram.specs.Refusals.{Asked}
 use Rattle.diagram.specs.Records.{status_at, size_at}
 use Rattle.diagram.specs.Histories.{Making, Reply, History, made, making_of, drawing_of, states_of, Answers}
 use Rattle.diagram.specs.RightAnswers.{RowOfNode}
@@ -14,10 +13,10 @@ use Rattle.diagram.specs.Runs.{Run, Performs}
 use Rattle.files.specs.declared.value.FilePerformance
 use Rattle.files.specs.declared.value.FileWeight
 use Rattle.files.specs.declared.fault.Fault.{Fault}
-use Rattle.files.specs.declared.fault.Fault.TheVariants.{Letter, Body, Value, LeftOver, Refused}
-use Rattle.files.specs.Contents.{Contents, Ahead, node_bytes, performance_bytes, demand_bytes}
+use Rattle.files.specs.declared.fault.Fault.TheVariants.{Refused}
+use Rattle.files.specs.Contents.{Contents, performance_bytes}
 use Rattle.files.specs.Drawn.{call_of, history_of, drawn, Takes}
-use Rattle.files.specs.Reading.{NodeLetter, DemandLetter, Headed, Whole, DemandsRead, RecordsRead}
+use Rattle.files.specs.Reading.{LastRecord, NodeRecord, RecordsRead}
 use Rattle.files.specs.Analyses.{AllCollected}
 use Rattle.files.specs.Reports.{longest_report, report_of, Put}
 
@@ -33,14 +32,9 @@ pub record NodeAnswers {T : Type 0} (t : Table) (s : List T) (k : ℕ) : Type 0 
   pub fits : size_at t k ≤ 64
 
 module _ {P X : Type 0} (file_kind : FilePerformance.Ghosts P) (shown : X → List ℕ) where
-  -- the last record is that of these demands: its body is handed on, which ends the file
-  abbrev pub LastRecord : ℕ → List ℕ → Result X Fault → Type 0
-  LastRecord k bytes r =
-      Asked (Headed DemandLetter bytes) (r ≡ Err (Letter k))
-      (Asked (Whole bytes) (r ≡ Err (Body k))
-      (Asked (Ahead (demand_bytes file_kind) bytes) (r ≡ Err (Value k))
-      ((demands : List P) × (rest : List ℕ) × (bytes ≡ demand_bytes file_kind demands ++ rest) ×
-      Asked (rest ≡ []) (r ≡ Err LeftOver) (IsOkAnd r (λ x. shown x ≡ flat_map (performance_bytes file_kind) demands)))))
+  -- the last record is that of these demands: its body is handed on
+  abbrev pub DemandsHandedOn : ℕ → List ℕ → Result X Fault → Type 0
+  DemandsHandedOn k bytes r = LastRecord file_kind k bytes (λ why. r ≡ Err why) (λ demands. IsOkAnd r (λ x. shown x ≡ flat_map (performance_bytes file_kind) demands))
 
 module _ {P W : Type 0} (kind : Performance.Ghosts P) (weights : Weight.Ghosts W) where
   abbrev Terms : Type 0
@@ -62,17 +56,14 @@ module _ {P W : Type 0} (kind : Performance.Ghosts P) (weights : Weight.Ghosts W
       -- the record at the front is given to the diagram as node k, and the rest is handed on
       abbrev pub NodeDrawn : ℕ → List ℕ → Type 0
       NodeDrawn k bytes =
-          Asked (Headed NodeLetter bytes) (Undrawn (Letter k))
-          (Asked (Whole bytes) (Undrawn (Body k))
-          (Asked (Ahead (node_bytes file_kind file_weights) bytes) (Undrawn (Value k))
-          ((m : Making P W) × (rest : List ℕ) × (bytes ≡ node_bytes file_kind file_weights m ++ rest) ×
-          (reply : Reply P W) × Performs kind weights (call_of m) t s reply t' s' × PassedOn k rest reply)))
+          NodeRecord file_kind file_weights k bytes Undrawn
+          (λ m rest. (reply : Reply P W) × Performs kind weights (call_of m) t s reply t' s' × PassedOn k rest reply)
 
     -- so many records, from the first on, are given to a new diagram; what is left tells the rest of the answer
     abbrev pub NodesDrawn : ℕ → ℕ → List ℕ → Result X Fault → Diagram P W → Terms → Type 0
     NodesDrawn lent n bytes (Ok x) d s =
         (ms : List (Making P W)) × (length ms ≡ n) × Takes kind weights ms × Run kind weights (history_of lent ms) d s ×
-        ((answer : Result (Contents P W) Fault) → DemandsRead kind weights file_kind file_weights ms (shown x) answer → RecordsRead kind weights file_kind file_weights n [] bytes answer)
+        ((answer : Result (Contents P W) Fault) → RecordsRead kind weights file_kind file_weights 0 ms (shown x) answer → RecordsRead kind weights file_kind file_weights n [] bytes answer)
     NodesDrawn lent n bytes (Err why) d s = RecordsRead kind weights file_kind file_weights n [] bytes (Err why)
 
   -- after these calls the nodes are as after those, and all of them answer

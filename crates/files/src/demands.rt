@@ -1,7 +1,7 @@
 // The demands of a file: its last record.
 ghost use Rattle.std.specs.Prelude.{◌≡◌, ◌++◌, List, length, flat_map, IfSome, IfNone, Result, Ok, Err};
 ghost use Rattle.files.specs.Contents.{performance_bytes};
-ghost use Rattle.files.specs.Steps.{ManyAhead, LastRecord};
+ghost use Rattle.files.specs.Steps.{ManyAhead, DemandsHandedOn};
 
 use crate::fault::Fault;
 use crate::front::performance;
@@ -24,7 +24,7 @@ fn after_performances<'a, P: FilePerformance>(count: usize, bytes: &'a [u8]) -> 
 
 // The bytes of the demands, which end the file; k is the number of the record.
 pub(crate) fn demands<'a, P: FilePerformance>(k: u8, bytes: &'a [u8]) -> Result<&'a [u8], Fault>
-    ensures { LastRecord P.FilePerformance (λ x. x.now) k bytes.now result }
+    ensures { DemandsHandedOn P.FilePerformance (λ x. x.now) k bytes.now result }
 {
     let [letter, count, body @ ..] = bytes else {
         return Err(Fault::Letter(k));
