@@ -16,7 +16,7 @@ use Rattle.files.specs.declared.fault.Fault.{Fault}
 use Rattle.files.specs.declared.model.Model.{Model}
 use Rattle.files.specs.Contents.{Contents}
 use Rattle.files.specs.Drawn.{drawn}
-use Rattle.files.specs.Reading.{ContentsRead, ReadsBack, Sound}
+use Rattle.files.specs.Reading.{ContentsRead, ReadsBack, ValidContents}
 use Rattle.files.specs.Models.{Shows, ReadInto, StoreLeft}
 use Rattle.files.specs.Analyses.{AllCollected, AnalysedOver}
 use Rattle.files.specs.Reports.{Unreported}
@@ -77,12 +77,12 @@ module _ {P W : Type 0} (kind : Performance.Ghosts P) (weights : Weight.Ghosts W
           at (inl (enough, (Err f, is, e))) = absurd (not_both e)
           at (inr (short, e)) = absurd (not_both e)
 
-      sound : Sound kind weights file_kind file_weights shown.0
-      sound = ((back bytes (Ok shown.0) shown.1 shown.0).0 refl).1
+      valid : ValidContents kind weights file_kind file_weights shown.0
+      valid = ((back bytes (Ok shown.0) shown.1 shown.0).0 refl).1
 
       -- there is a node
       pub nodes_read : 1 ≤ m.nodes
-      nodes_read = omega (arith, shown.2.nodes, sound.nodes)
+      nodes_read = omega (arith, shown.2.nodes, valid.nodes)
 
       module _ (out : List ℕ) (r : Result ℕ Fault) (out' : List ℕ) where
         abbrev Reports : Type 0
@@ -95,7 +95,7 @@ module _ {P W : Type 0} (kind : Performance.Ghosts P) (weights : Weight.Ghosts W
 
           tried : (r' : Result (Unit {0}) Fault) → NodesCollected kind weights m.nodes m.diagram s' r' d' s'' →
               AllCollected kind weights nodes (λ why. r' ≡ Err why) ((r' ≡ Ok tt) × (length s'' ≡ length s') × (h : History P W) × Run kind weights h d' s'' × AllAnswer kind weights h nodes)
-          tried r' x = x (length s) shown.0.nodes (sym shown.2.nodes) sound.taken (omega (arith, kept, roomy)) shown.2.run
+          tried r' x = x (length s) shown.0.nodes (sym shown.2.nodes) valid.taken (omega (arith, kept, roomy)) shown.2.run
 
           pub stops_collecting : (why : Fault) → NodesCollected kind weights m.nodes m.diagram s' (Err why) d' s'' → Unreported out r out' why → Reports
           stops_collecting why x gone = at (tried (Err why) x)
@@ -111,8 +111,8 @@ module _ {P W : Type 0} (kind : Performance.Ghosts P) (weights : Weight.Ghosts W
               at : AllCollected kind weights nodes (λ f. ◌≡◌ {A = Result (Unit {0}) Fault} (Ok tt) (Err f)) ((◌≡◌ {A = Result (Unit {0}) Fault} (Ok tt) (Ok tt)) × (length s'' ≡ length s') × (h : History P W) × Run kind weights h d' s'' × AllAnswer kind weights h nodes) → Reports
               at (inl (k, f, below, shorts, long, e)) = absurd (not_both e)
               at (inr (shorts, (e, still, h, run, same))) =
-                  let last : m.nodes - 1 < made nodes = omega (arith, shown.2.nodes, sound.nodes, many_made 3200 shown.0.nodes) in
-                  let told = report h shown.0.demands (omega (arith, still, kept, roomy)) run (omega (arith, last, same.nodes)) (same.answer (m.nodes - 1) last) shown.2.demands sound.demands.1 in
+                  let last : m.nodes - 1 < made nodes = omega (arith, shown.2.nodes, valid.nodes, many_made 3200 shown.0.nodes) in
+                  let told = report h shown.0.demands (omega (arith, still, kept, roomy)) run (omega (arith, last, same.nodes)) (same.answer (m.nodes - 1) last) shown.2.demands valid.demands.1 in
                   let row = subst (λ f. RowOf kind weights (enumeration kind weights f (drawing_of h (m.nodes - 1))) told.0) same.states told.1 in
                   let row' = subst (λ f. RowOf kind weights (enumeration kind weights (states_of nodes) (f (m.nodes - 1))) told.0) same.drawings row in
                   inl (roomy, (Ok shown.0, shown.1, inr (shorts, (told.0, subst (λ k. RowOfNode kind weights nodes (k - 1) told.0) shown.2.nodes row', told.2, told.3))))

@@ -18,7 +18,7 @@ use Rattle.diagram.specs.RightAnswers.{RightAnswer, ArmsShort, ResultsShort, Row
 use Rattle.diagram.specs.Runs.{told, Run, AnswersRight}
 use Rattle.diagram.proofs.Holding.{but_at, but_else}
 use Rattle.diagram.proofs.Since.{since_now, since_kept}
-use Rattle.files.specs.Drawn.{history_of, drawn, TakesNext, Takes}
+use Rattle.files.specs.Drawn.{history_of, drawn, TakesNext, TakesAll}
 use Rattle.files.specs.Analyses.{Short, TooLong}
 use Rattle.files.specs.declared.fault.Fault.TheVariants.{Refused}
 use Rattle.files.specs.Steps.{NodesCollected}
@@ -68,7 +68,7 @@ module _ {P W : Type 0} (kind : Performance.Ghosts P) (weights : Weight.Ghosts W
     last_stands ms (bridged_from a b c d e) drawing t =
         inr (λ p. absurd (cc p.1), subst (λ n. All (λ x. x < n) (a ∷ b ∷ c ∷ d ∷ e ∷ [])) (many_made 3200 ms) (given (given t).1).0)
 
-    each_stands : (ms : List (Making P W)) → Takes kind weights ms → (k : ℕ) → k < length ms → let h = drawn ms in Stands k (making_of h k) (drawing_of h k)
+    each_stands : (ms : List (Making P W)) → TakesAll kind weights ms → (k : ℕ) → k < length ms → let h = drawn ms in Stands k (making_of h k) (drawing_of h k)
     each_stands [] t k l = absurd (omega (arith, l))
     each_stands (m ∷ ms) t k l =
         let making = making_of (drawn ms) in
@@ -139,7 +139,7 @@ module _ {P W : Type 0} (kind : Performance.Ghosts P) (weights : Weight.Ghosts W
   -- what the loop keeps: the nodes below k are collected
   abbrev pub CollectedBelow : ℕ → Diagram P W → Terms → ℕ → Diagram P W → Terms → Type 0
   CollectedBelow n d s k d' s' =
-      (lent : ℕ) (ms : List (Making P W)) → length ms ≡ n → Takes kind weights ms → 3200 ≤ length s → Run kind weights (history_of lent ms) d s →
+      (lent : ℕ) (ms : List (Making P W)) → length ms ≡ n → TakesAll kind weights ms → 3200 ≤ length s → Run kind weights (history_of lent ms) d s →
       (h : History P W) × Run kind weights h d' s' × Through k h (drawn ms)
 
   pub none_below : (lent : ℕ) (ms : List (Making P W)) → Through 0 (history_of lent ms) (drawn ms)
@@ -170,7 +170,7 @@ module _ {P W : Type 0} (kind : Performance.Ghosts P) (weights : Weight.Ghosts W
 
     -- one more is collected
     module _ (promise : AnswersRight kind weights) (l : k < n) (d' : Diagram P W) (s' : Terms) (r : Result ℕ Refusal) (x : Collected kind weights (records d) s k r (records d') s') where
-      one_more : (lent : ℕ) (ms : List (Making P W)) → length ms ≡ n → Takes kind weights ms → 3200 ≤ length s₀ → Run kind weights (history_of lent ms) d₀ s₀ →
+      one_more : (lent : ℕ) (ms : List (Making P W)) → length ms ≡ n → TakesAll kind weights ms → 3200 ≤ length s₀ → Run kind weights (history_of lent ms) d₀ s₀ →
           TooLongOr k (drawn ms) (told number r) ((h : History P W) × Run kind weights h d' s' × Through (k + 1) h (drawn ms))
       one_more lent ms many takes roomy run =
           let so = below lent ms many takes roomy run in

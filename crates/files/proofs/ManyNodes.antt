@@ -15,7 +15,7 @@ use Rattle.files.specs.declared.value.FileWeight
 use Rattle.files.specs.declared.fault.Fault.{Fault}
 use Rattle.files.specs.declared.fault.Fault.TheVariants.{Letter, Body, Value, Refused}
 use Rattle.files.specs.Contents.{Contents, node_bytes}
-use Rattle.files.specs.Drawn.{call_of, history_of, drawn, Takes, TakesNext}
+use Rattle.files.specs.Drawn.{call_of, history_of, drawn, TakesAll, TakesNext}
 use Rattle.files.specs.Reading.{RecordsRead}
 use Rattle.files.specs.Steps.{NodeDrawn, NodesDrawn}
 use Rattle.files.proofs.Asking.{given}
@@ -59,7 +59,7 @@ module _ {P W : Type 0} (kind : Performance.Ghosts P) (weights : Weight.Ghosts W
     pub record SoFar (lent n : ℕ) (bytes : List ℕ) (k : ℕ) (rest : List ℕ) (d : Diagram P W) (s : Terms) : Type 0 where
       pub nodes : List (Making P W)
       pub many : length nodes ≡ k
-      pub taken : Takes kind weights nodes
+      pub taken : TakesAll kind weights nodes
       pub run : Run kind weights (history_of lent nodes) d s
       pub long : length s ≡ lent
       pub rest_tells : (answer : Answers) → Left (n - k) nodes rest answer → Left n [] bytes answer

@@ -11,8 +11,8 @@ use Rattle.files.specs.declared.value.FileWeight
 use Rattle.files.specs.declared.fault.Fault.{Fault}
 use Rattle.files.specs.declared.fault.Fault.TheVariants.{Refused}
 use Rattle.files.specs.Contents.{Contents, demand_bytes, node_bytes, nodes_bytes, contents_bytes}
-use Rattle.files.specs.Drawn.{call_of, drawn, Takes, TakesNext, TakenOr}
-use Rattle.files.specs.Reading.{Whole, RecordsRead, ContentsRead, Sound, ReadsBack, ReadsOneWay}
+use Rattle.files.specs.Drawn.{call_of, drawn, TakesAll, TakesNext, TakenOr}
+use Rattle.files.specs.Reading.{Whole, RecordsRead, ContentsRead, ValidContents, ReadsBack, ReadsOneWay}
 use Rattle.files.proofs.Bytes.{FileKind, FileWeighing, Once}
 use Rattle.files.proofs.Writing.{demand_once, demands_whole, node_once, node_headed, node_whole}
 
@@ -66,8 +66,8 @@ module _ {P W : Type 0} (kind : Performance.Ghosts P) (weights : Weight.Ghosts W
   abbrev Read : ℕ → List (Making P W) → List ℕ → Answer → Type 0
   Read = RecordsRead kind weights file_kind file_weights
 
-  abbrev SoundHere : Contents P W → Type 0
-  SoundHere = Sound kind weights file_kind file_weights
+  abbrev ValidHere : Contents P W → Type 0
+  ValidHere = ValidContents kind weights file_kind file_weights
 
   abbrev writing : Contents P W → List ℕ
   writing c = nodes_bytes file_kind file_weights c.nodes ++ demand_bytes file_kind c.demands
@@ -77,9 +77,9 @@ module _ {P W : Type 0} (kind : Performance.Ghosts P) (weights : Weight.Ghosts W
     written : nodes_bytes file_kind file_weights ms ++ bytes ≡ writing c
     as_many : length c.nodes ≡ n + length ms
     demands : (1 ≤ length c.demands) × (length c.demands ≤ 16)
-    taken : Takes kind weights c.nodes
+    taken : TakesAll kind weights c.nodes
 
-  rest_read : (n : ℕ) (ms : List (Making P W)) (bytes : List ℕ) (c : Contents P W) → Takes kind weights ms → Read n ms bytes (Ok c) → Rest n ms bytes c
+  rest_read : (n : ℕ) (ms : List (Making P W)) (bytes : List ℕ) (c : Contents P W) → TakesAll kind weights ms → Read n ms bytes (Ok c) → Rest n ms bytes c
   rest_read zero ms bytes c taken x =
       let whole = given (given x).1 in
       let found = (given whole.1).1 in
@@ -98,8 +98,8 @@ module _ {P W : Type 0} (kind : Performance.Ghosts P) (weights : Weight.Ghosts W
         taken = more.taken;
       }
 
-  -- a file that is read is the writing of its contents, and they are sound
-  contents_read : (bytes : List ℕ) (c : Contents P W) → ContentsRead kind weights file_kind file_weights bytes (Ok c) → (bytes ≡ contents_bytes file_kind file_weights c) × SoundHere c
+  -- a file that is read is the writing of its contents, and they are valid
+  contents_read : (bytes : List ℕ) (c : Contents P W) → ContentsRead kind weights file_kind file_weights bytes (Ok c) → (bytes ≡ contents_bytes file_kind file_weights c) × ValidHere c
   contents_read [] c x = absurd ((given x).0)
   contents_read (count ∷ records) c x =
       let counted = given x in
@@ -108,7 +108,7 @@ module _ {P W : Type 0} (kind : Performance.Ghosts P) (weights : Weight.Ghosts W
       (λ i. same i ∷ read.written i, record { nodes = (omega (arith, counted.0.0, same), omega (arith, counted.0.1, same)); demands = read.demands; taken = read.taken })
 
   -- nodes that are taken are read from their writing
-  nodes_read : (ms : List (Making P W)) → Takes kind weights ms → (n : ℕ) (rest : List ℕ) (answer : Answer) → Read n ms rest answer → Read (length ms + n) [] (nodes_bytes file_kind file_weights ms ++ rest) answer
+  nodes_read : (ms : List (Making P W)) → TakesAll kind weights ms → (n : ℕ) (rest : List ℕ) (answer : Answer) → Read n ms rest answer → Read (length ms + n) [] (nodes_bytes file_kind file_weights ms ++ rest) answer
   nodes_read [] taken n rest answer x = rw zero-add x
   nodes_read (m ∷ ms) taken n rest answer x =
       let here = node_bytes file_kind file_weights m ++ rest in
@@ -117,15 +117,15 @@ module _ {P W : Type 0} (kind : Performance.Ghosts P) (weights : Weight.Ghosts W
       let more : length ms + suc n ≡ suc (length ms) + n = omega arith in
       subst₂ (λ k z. Read k [] z answer) more (sym (append_assoc (nodes_bytes file_kind file_weights ms) (node_bytes file_kind file_weights m) rest)) (nodes_read ms taken.0 (suc n) here answer step)
 
-  -- sound contents are read from their writing
-  writing_read : (c : Contents P W) → SoundHere c → ContentsRead kind weights file_kind file_weights (contents_bytes file_kind file_weights c) (Ok c)
-  writing_read c sound =
+  -- valid contents are read from their writing
+  writing_read : (c : Contents P W) → ValidHere c → ContentsRead kind weights file_kind file_weights (contents_bytes file_kind file_weights c) (Ok c)
+  writing_read c valid =
       let last = sym (append-nil (demand_bytes file_kind c.demands)) in
       let end : Read 0 c.nodes (demand_bytes file_kind c.demands) (Ok c) =
-      yes refl (yes (subst Whole (sym last) (demands_whole file_kind c.demands [] sound.demands)) (yes (c.demands, [], last) (c.demands, [], last, yes refl refl))) in
+      yes refl (yes (subst Whole (sym last) (demands_whole file_kind c.demands [] valid.demands)) (yes (c.demands, [], last) (c.demands, [], last, yes refl refl))) in
       let all : length c.nodes + 0 ≡ length c.nodes + 1 - 1 = omega arith in
-      yes (omega (arith, sound.nodes.0), omega (arith, sound.nodes.1))
-      (subst (λ k. Read k [] (writing c) (Ok c)) all (nodes_read c.nodes sound.taken 0 (demand_bytes file_kind c.demands) (Ok c) end))
+      yes (omega (arith, valid.nodes.0), omega (arith, valid.nodes.1))
+      (subst (λ k. Read k [] (writing c) (Ok c)) all (nodes_read c.nodes valid.taken 0 (demand_bytes file_kind c.demands) (Ok c) end))
 
   module _ (words : FileKind file_kind) (weighing : FileWeighing file_weights) where
     records_once : (n : ℕ) (ms : List (Making P W)) (bytes : List ℕ) (a b : Answer) → Read n ms bytes a → Read n ms bytes b → a ≡ b

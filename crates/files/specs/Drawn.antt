@@ -28,9 +28,9 @@ module _ {P W : Type 0} (kind : Performance.Ghosts P) (weights : Weight.Ghosts W
   TakesNext ms m = RightAnswer kind weights (drawn ms) (Ok (number (length ms))) (call_of m)
 
   -- the diagram takes these nodes, one after the other
-  abbrev pub Takes : List (Making P W) → Type 0
-  Takes [] = Unit {0}
-  Takes (m ∷ ms) = Takes ms × TakesNext ms m
+  abbrev pub TakesAll : List (Making P W) → Type 0
+  TakesAll [] = Unit {0}
+  TakesAll (m ∷ ms) = TakesAll ms × TakesNext ms m
 
   -- the diagram's own questions about node m after these: it is taken, or refused
   abbrev pub TakenOr : List (Making P W) → Making P W → (Refusal → Type 0) → Type 0 → Type 0

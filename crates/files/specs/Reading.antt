@@ -9,7 +9,7 @@ use Rattle.files.specs.declared.value.FileWeight
 use Rattle.files.specs.declared.fault.Fault.{Fault}
 use Rattle.files.specs.declared.fault.Fault.TheVariants.{Records, Letter, Body, LeftOver, Value, Refused}
 use Rattle.files.specs.Contents.{Contents, Ahead, part_letter, series_letter, parallel_letter, bridge_letter, demand_letter, node_bytes, demand_bytes, contents_bytes}
-use Rattle.files.specs.Drawn.{Takes, TakenOr}
+use Rattle.files.specs.Drawn.{TakesAll, TakenOr}
 
 -- the number of records stands first
 abbrev pub Counted : List ℕ → Type 0
@@ -75,16 +75,16 @@ module _ {P W : Type 0} (kind : Performance.Ghosts P) (weights : Weight.Ghosts W
   ContentsRead bytes answer = Asked (Counted bytes) (answer ≡ Err Records) (RecordsRead (get_or bytes 0 0 - 1) [] (drop 1 bytes) answer)
 
   -- contents that a file may have
-  pub record Sound (c : Contents P W) : Type 0 where
+  pub record ValidContents (c : Contents P W) : Type 0 where
     pub nodes : (1 ≤ length c.nodes) × (length c.nodes ≤ 48)
     pub demands : (1 ≤ length c.demands) × (length c.demands ≤ 16)
-    pub taken : Takes kind weights c.nodes
+    pub taken : TakesAll kind weights c.nodes
 
-  -- a file is read as these contents exactly if it is their writing, and they are sound
+  -- a file is read as these contents exactly if it is their writing, and they are valid
   abbrev pub ReadsBack : Type 0
   ReadsBack =
       (bytes : List ℕ) (answer : Answer) → ContentsRead bytes answer → (c : Contents P W) →
-      (answer ≡ Ok c) ↔ ((bytes ≡ contents_bytes file_kind file_weights c) × Sound c)
+      (answer ≡ Ok c) ↔ ((bytes ≡ contents_bytes file_kind file_weights c) × ValidContents c)
 
   -- and there is one answer
   abbrev pub ReadsOneWay : Type 0

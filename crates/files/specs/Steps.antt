@@ -15,7 +15,7 @@ use Rattle.files.specs.declared.value.FileWeight
 use Rattle.files.specs.declared.fault.Fault.{Fault}
 use Rattle.files.specs.declared.fault.Fault.TheVariants.{Refused}
 use Rattle.files.specs.Contents.{Contents, performance_bytes}
-use Rattle.files.specs.Drawn.{call_of, history_of, drawn, Takes}
+use Rattle.files.specs.Drawn.{call_of, history_of, drawn, TakesAll}
 use Rattle.files.specs.Reading.{LastRecord, NodeRecord, RecordsRead}
 use Rattle.files.specs.Analyses.{AllCollected}
 use Rattle.files.specs.Reports.{longest_report, report_of, Put}
@@ -62,7 +62,7 @@ module _ {P W : Type 0} (kind : Performance.Ghosts P) (weights : Weight.Ghosts W
     -- so many records, from the first on, are given to a new diagram; what is left tells the rest of the answer
     abbrev pub NodesDrawn : ℕ → ℕ → List ℕ → Result X Fault → Diagram P W → Terms → Type 0
     NodesDrawn lent n bytes (Ok x) d s =
-        (ms : List (Making P W)) × (length ms ≡ n) × Takes kind weights ms × Run kind weights (history_of lent ms) d s ×
+        (ms : List (Making P W)) × (length ms ≡ n) × TakesAll kind weights ms × Run kind weights (history_of lent ms) d s ×
         ((answer : Result (Contents P W) Fault) → RecordsRead kind weights file_kind file_weights 0 ms (shown x) answer → RecordsRead kind weights file_kind file_weights n [] bytes answer)
     NodesDrawn lent n bytes (Err why) d s = RecordsRead kind weights file_kind file_weights n [] bytes (Err why)
 
@@ -77,7 +77,7 @@ module _ {P W : Type 0} (kind : Performance.Ghosts P) (weights : Weight.Ghosts W
   -- the nodes of a file, so drawn in a diagram, are collected; the first refusal is passed on
   abbrev pub NodesCollected : ℕ → Diagram P W → Terms → Result (Unit {0}) Fault → Diagram P W → Terms → Type 0
   NodesCollected n d s r d' s' =
-      (lent : ℕ) (ms : List (Making P W)) → length ms ≡ n → Takes kind weights ms → 3200 ≤ length s → Run kind weights (history_of lent ms) d s →
+      (lent : ℕ) (ms : List (Making P W)) → length ms ≡ n → TakesAll kind weights ms → 3200 ≤ length s → Run kind weights (history_of lent ms) d s →
       AllCollected kind weights (drawn ms) (λ why. r ≡ Err why)
       ((r ≡ Ok tt) × (length s' ≡ length s) × (h : History P W) × Run kind weights h d' s' × AllAnswer h (drawn ms))
 
