@@ -1,5 +1,6 @@
 -- What the steps of an analysis do; for private functions.
 use Rattle.std.specs.Prelude.{◌≡◌, ℕ, ◌<◌, ◌≤◌, List, [], ◌++◌, length, flat_map, Result, Ok, Err, IsOkAnd}
+use Rattle.std.specs.Borrow.{Bor}
 use Rattle.kinds.specs.declared.performance.Performance
 use Rattle.kinds.specs.declared.weight.Weight
 use Rattle.terms.specs.declared.term.Term.{Term}
@@ -10,15 +11,19 @@ use Rattle.diagram.specs.Records.{status_at, size_at}
 use Rattle.diagram.specs.Histories.{Making, Reply, History, made, making_of, drawing_of, states_of, Answers}
 use Rattle.diagram.specs.RightAnswers.{RowOfNode}
 use Rattle.diagram.specs.Runs.{Run, Performs}
+use Rattle.diagram.specs.Shown.{records}
+use Rattle.diagram.specs.Store.{row_at}
 use Rattle.files.specs.declared.value.FilePerformance
 use Rattle.files.specs.declared.value.FileWeight
 use Rattle.files.specs.declared.fault.Fault.{Fault}
 use Rattle.files.specs.declared.fault.Fault.TheVariants.{Refused}
+use Rattle.files.specs.declared.page.Page.{Page}
 use Rattle.files.specs.Contents.{Contents, performance_bytes}
 use Rattle.files.specs.Drawn.{call_of, history_of, drawn, TakesAll}
 use Rattle.files.specs.Reading.{LastRecord, NodeRecord, RecordsRead}
 use Rattle.files.specs.Analyses.{AllCollected}
-use Rattle.files.specs.Reports.{longest_report, report_of, Put}
+use Rattle.files.specs.Reports.{longest_report, demand_line, state_line, report_of, Put}
+use Rattle.files.specs.Pages.{Wrote}
 
 -- so many values are written at the front of the bytes
 abbrev pub ManyAhead : {V : Type 0} → (V → List ℕ) → ℕ → List ℕ → Type 0
@@ -82,7 +87,29 @@ module _ {P W : Type 0} (kind : Performance.Ghosts P) (weights : Weight.Ghosts W
       ((r ≡ Ok tt) × (length s' ≡ length s) × (h : History P W) × Run kind weights h d' s' × AllAnswer h (drawn ms))
 
   module _ (file_kind : FilePerformance.Ghosts P) (file_weights : FileWeight.Ghosts W) where
-    -- the report on node k, which answers, is put in the output; the demands are at the front of these bytes
+    -- the record at the front of the bytes is given to this diagram as node k, and a slice of the rest is handed on
+    abbrev pub DrawsNode : Diagram P W → Terms → Result (Bor (List ℕ)) Fault → Diagram P W → Terms → ℕ → List ℕ → Type 0
+    DrawsNode d s r d' s' k bytes = NodeDrawn file_kind file_weights (λ x. x.now) (records d) s r (records d') s' k bytes
+
+    -- if node k tells its row when it is asked, this text on the row is added to the page
+    abbrev RowWritten : Diagram P W → Terms → ℕ → (Terms → List ℕ) → Page → Result (Unit {0}) Fault → Page → Type 0
+    RowWritten d s k text page r page' = NodeAnswers (records d) s k → (r ≡ Ok tt) × Wrote page (text (row_at (records d) s k)) page'
+
+    -- the line of one demand
+    abbrev pub NeedWritten : Diagram P W → Terms → ℕ → P → Page → Result (Unit {0}) Fault → Page → Type 0
+    NeedWritten d s k demand page r page' = RowWritten d s k (λ row. demand_line kind weights file_kind file_weights row demand) page r page'
+
+    -- the lines of the demands that these bytes write, 16 at most
+    abbrev pub NeedsWritten : Diagram P W → Terms → ℕ → List ℕ → Page → Result (Unit {0}) Fault → Page → Type 0
+    NeedsWritten d s k bytes page r page' =
+        (demands : List P) → bytes ≡ flat_map (performance_bytes file_kind) demands → length demands ≤ 16 →
+        RowWritten d s k (λ row. flat_map (demand_line kind weights file_kind file_weights row) demands) page r page'
+
+    -- the lines of the terms
+    abbrev pub TermsWritten : Diagram P W → Terms → ℕ → Page → Result (Unit {0}) Fault → Page → Type 0
+    TermsWritten d s k page r page' = RowWritten d s k (flat_map (state_line kind weights file_kind file_weights)) page r page'
+
+    -- the report on node k, which answers, is put in the output; these bytes write its demands
     abbrev pub NodeReported : Diagram P W → Terms → ℕ → List ℕ → List ℕ → Result ℕ Fault → List ℕ → Type 0
     NodeReported d s k bytes out r out' =
         (h : History P W) (demands : List P) → 3200 ≤ length s → Run kind weights h d s → k < made h → Answers h k →

@@ -1,8 +1,7 @@
 // A record that makes a node, given to the diagram.
 ghost use Rattle.std.specs.Prelude.{◌≡◌, ◌≤◌, ◌∷◌, length, take};
-ghost use Rattle.diagram.specs.Shown.{records};
 ghost use Rattle.files.specs.Contents.{part_letter, bridge_letter, way_letter};
-ghost use Rattle.files.specs.Steps.{NodeDrawn};
+ghost use Rattle.files.specs.Steps.{DrawsNode};
 
 use crate::fault::Fault;
 use crate::states::states;
@@ -20,7 +19,7 @@ pub(crate) fn draw_node<'a, P: Performance + FilePerformance, W: Weight + FileWe
     store: &mut [Term<P, W>],
     room: &mut [Term<P, W>; 255],
 ) -> Result<&'a [u8], Fault>
-    ensures { NodeDrawn P.Performance W.Weight P.FilePerformance W.FileWeight (λ x. x.now) (records diagram.old) store.old result (records diagram.new) store.new k bytes.now }
+    ensures { DrawsNode P.Performance W.Weight P.FilePerformance W.FileWeight diagram.old store.old result diagram.new store.new k bytes.now }
 {
     let [letter, count, body @ ..] = bytes else {
         return Err(Fault::Letter(k));
@@ -44,7 +43,7 @@ fn draw_part<'a, P: Performance + FilePerformance, W: Weight + FileWeight>(
     room: &mut [Term<P, W>; 255],
 ) -> Result<&'a [u8], Fault>
     requires { count ≤ 255 }
-    ensures { NodeDrawn P.Performance W.Weight P.FilePerformance W.FileWeight (λ x. x.now) (records diagram.old) store.old result (records diagram.new) store.new k (part_letter ∷ count ∷ body.now) }
+    ensures { DrawsNode P.Performance W.Weight P.FilePerformance W.FileWeight diagram.old store.old result diagram.new store.new k (part_letter ∷ count ∷ body.now) }
 {
     if body.len() < 16 * count {
         return Err(Fault::Body(k));
@@ -67,7 +66,7 @@ fn draw_joined<'a, P: Performance + FilePerformance, W: Weight + FileWeight>(
     store: &[Term<P, W>],
 ) -> Result<&'a [u8], Fault>
     requires { count ≤ 255 }
-    ensures { NodeDrawn P.Performance W.Weight P.FilePerformance W.FileWeight (λ x. x.now) (records diagram.old) store.now result (records diagram.new) store.now k (way_letter way ∷ count ∷ body.now) }
+    ensures { DrawsNode P.Performance W.Weight P.FilePerformance W.FileWeight diagram.old store.now result diagram.new store.now k (way_letter way ∷ count ∷ body.now) }
 {
     if body.len() < count {
         return Err(Fault::Body(k));
@@ -87,7 +86,7 @@ fn draw_bridge<'a, P: Performance + FilePerformance, W: Weight + FileWeight>(
     diagram: &mut Diagram<P, W>,
     store: &[Term<P, W>],
 ) -> Result<&'a [u8], Fault>
-    ensures { NodeDrawn P.Performance W.Weight P.FilePerformance W.FileWeight (λ x. x.now) (records diagram.old) store.now result (records diagram.new) store.now k (bridge_letter ∷ count ∷ body.now) }
+    ensures { DrawsNode P.Performance W.Weight P.FilePerformance W.FileWeight diagram.old store.now result diagram.new store.now k (bridge_letter ∷ count ∷ body.now) }
 {
     if count != 5 {
         return Err(Fault::Body(k));

@@ -1,12 +1,8 @@
 // The report on a node.
-ghost use Rattle.std.specs.Prelude.{◌≡◌, ◌+◌, ◌*◌, ◌≤◌, List, length, flat_map, Ok, IfOk};
+ghost use Rattle.std.specs.Prelude.{◌+◌, ◌*◌, ◌≤◌, IfOk};
 ghost use Rattle.diagram.specs.Runs.{AnswersRight};
-ghost use Rattle.diagram.specs.Shown.{records};
-ghost use Rattle.diagram.specs.Store.{row_at};
-ghost use Rattle.files.specs.Contents.{performance_bytes};
-ghost use Rattle.files.specs.Reports.{longest_report, demand_line, state_line};
-ghost use Rattle.files.specs.Pages.{Wrote};
-ghost use Rattle.files.specs.Steps.{NodeReported, NodeAnswers};
+ghost use Rattle.files.specs.Reports.{longest_report};
+ghost use Rattle.files.specs.Steps.{NodeReported, NeedsWritten, NeedWritten, TermsWritten};
 
 use crate::fault::Fault;
 use crate::front::performance;
@@ -47,7 +43,7 @@ fn needs<P: Performance + FilePerformance, W: Weight + FileWeight>(
     page: &mut Page,
 ) -> Result<(), Fault>
     requires { page.now.len + 56 * 16 ≤ longest_report }
-    ensures wrote { NodeAnswers (records diagram.now) store.now k → (ds : List P) → demands.now ≡ flat_map (performance_bytes P.FilePerformance) ds → length ds ≤ 16 → (result ≡ Ok tt) × Wrote page.old (flat_map (demand_line P.Performance W.Weight P.FilePerformance W.FileWeight (row_at (records diagram.now) store.now k)) ds) page.new }
+    ensures wrote { NeedsWritten P.Performance W.Weight P.FilePerformance W.FileWeight diagram.now store.now k demands.now page.old result page.new }
     ensures short { page.new.len ≤ page.old.len + 56 * 16 }
 {
     let mut rest = demands;
@@ -70,7 +66,7 @@ fn need<P: Performance + FilePerformance, W: Weight + FileWeight>(
     page: &mut Page,
 ) -> Result<(), Fault>
     requires { page.now.len + 56 ≤ longest_report }
-    ensures wrote { NodeAnswers (records diagram.now) store.now k → (result ≡ Ok tt) × Wrote page.old (demand_line P.Performance W.Weight P.FilePerformance W.FileWeight (row_at (records diagram.now) store.now k) demand) page.new }
+    ensures wrote { NeedWritten P.Performance W.Weight P.FilePerformance W.FileWeight diagram.now store.now k demand page.old result page.new }
     ensures short { page.new.len ≤ page.old.len + 56 }
 {
     match diagram.availability(store, usize::from(k), demand) {
@@ -90,7 +86,7 @@ fn terms<P: Performance + FilePerformance, W: Weight + FileWeight>(
     page: &mut Page,
 ) -> Result<(), Fault>
     requires { page.now.len + 38 * 64 ≤ longest_report }
-    ensures wrote { NodeAnswers (records diagram.now) store.now k → (result ≡ Ok tt) × Wrote page.old (flat_map (state_line P.Performance W.Weight P.FilePerformance W.FileWeight) (row_at (records diagram.now) store.now k)) page.new }
+    ensures wrote { TermsWritten P.Performance W.Weight P.FilePerformance W.FileWeight diagram.now store.now k page.old result page.new }
     ensures short { page.new.len ≤ page.old.len + 38 * 64 }
 {
     let size = match diagram.size(store, usize::from(k)) {

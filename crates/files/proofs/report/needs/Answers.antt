@@ -21,12 +21,12 @@ loop-preserved g c = record {
 }
 
 pub returns-in_default-clause-wrote : goal.returns-in_default-clause-wrote
-returns-in_default-clause-wrote g c = λ a ds is few.
+returns-in_default-clause-wrote g c = λ ds is few a.
     let line = demand_line g.P.Performance g.W.Weight g.P.FilePerformance g.W.FileWeight (row_at (records c.args.diagram.now) c.args.store.now c.args.k) in
     let so = c.loop.invariant.lines a ds is in
     (refl, all_lines {line = line} (none_left (file_kind_of g.met.P.FilePerformance) ds c.loop.counter c.loop.rest.now so.0 c.in_default.ensures.none) so.1)
 
 pub returns-clause-wrote : goal.returns-clause-wrote
-returns-clause-wrote g c = λ a ds is few.
+returns-clause-wrote g c = λ ds is few a.
     let line = demand_line g.P.Performance g.W.Weight g.P.FilePerformance g.W.FileWeight (row_at (records c.args.diagram.now) c.args.store.now c.args.k) in
     (refl, all_lines {line = line} (omega (arith, few, c.loop-test.false)) (c.loop.invariant.lines a ds is).1)

@@ -10,7 +10,7 @@ use Rattle.files.proofs.report.report.Goals as goal
 pub returns-in_err-needs-clause-reported : goal.returns-in_err-needs-clause-reported
 returns-in_err-needs-clause-reported g c = λ h demands roomy run node answers is few.
     let a = node_answers c.requires h c.args.diagram.now c.args.store.now c.args.k run roomy node answers in
-    let wrote = (c.needs.ensures.wrote a demands is few).0 in
+    let wrote = (c.needs.ensures.wrote demands is few a).0 in
     let failed = c.in_err-needs.was in
     absurd (cc)
 
@@ -24,7 +24,7 @@ returns-in_err-terms-clause-reported g c = λ h demands roomy run node answers i
 pub returns-clause-reported : goal.returns-clause-reported
 returns-clause-reported g c = λ h demands roomy run node answers is few.
     let a = node_answers c.requires h c.args.diagram.now c.args.store.now c.args.k run roomy node answers in
-    let page = (c.needs.ensures.wrote a demands is few).1 and_then (c.terms.ensures.wrote a).1 in
+    let page = (c.needs.ensures.wrote demands is few a).1 and_then (c.terms.ensures.wrote a).1 in
     let put = copied_put _ c.args.output.now c.copy_to.result c.copy_to.new.output c.copy_to.ensures in (
       row_at (records c.args.diagram.now) c.args.store.now c.args.k,
       row_told c.requires h c.args.diagram.now c.args.store.now c.args.k run roomy node answers (lawful_kind g.met.P.Performance) (lawful_weight g.met.W.Weight),
