@@ -1,6 +1,5 @@
 -- What a diagram of two joined parts answers: read off from the promise over all runs.
-use Rattle.std.proofs.Common.{◌≡◌, ◌≢◌, ℕ, zero, suc, ◌<◌, ◌≤◌, Bool, true, false, cond, List, [], ◌∷◌, length, All, AllPairs, Contains, Option, Some, None, IsErrAnd, ◌==◌, Result, Ok, Err, is_ok, sym, ◌∙◌, ap, refl, subst, inl, inr, arith}
-use Rattle.std.proofs.lemmas.Bool.{true≢false}
+use Rattle.std.proofs.Common.{◌≡◌, ◌≢◌, ℕ, zero, suc, ◌<◌, ◌≤◌, Bool, true, false, cond, List, [], ◌∷◌, length, All, AllPairs, Contains, Option, Some, None, IsErrAnd, ◌==◌, Result, Ok, Err, sym, ◌∙◌, ap, refl, subst, inl, inr, arith}
 use Rattle.kinds.specs.declared.performance.Performance
 use Rattle.kinds.specs.declared.weight.Weight
 use Rattle.kinds.proofs.Lawful.{Kind, Weighing}
@@ -23,30 +22,18 @@ use Rattle.diagram.specs.Shown.{records}
 use Rattle.diagram.specs.Changes.{NodeCollected}
 use Rattle.diagram.specs.Store.{RowPut}
 use Rattle.diagram.specs.Calls.{Made, Added, Joins, Collected, TellsAvailability, Refused, TooLong}
-use Rattle.diagram.specs.Histories.{availability, Call, adding, joining, collecting, asking, number, two_weights, Reply, Entry, History, Making, added, joined_from, bridged_from, named_by, drawing_of, states_of, IsPart, Unused, CollectedSince, Answers}
+use Rattle.diagram.specs.Histories.{availability, adding, joining, collecting, asking, number, two_weights, Reply, History, Making, added, joined_from, bridged_from, named_by, drawing_of, states_of, IsPart, Unused, CollectedSince, Answers}
 use Rattle.diagram.specs.Nodes.{EnoughStates}
 use Rattle.diagram.specs.RightAnswers.{RightAnswer, RowOfNode, ArmsShort, ResultsShort}
-use Rattle.diagram.specs.Runs.{told, Performs, Run, start, next, AnswersRight}
-use Rattle.diagram.proofs.Asking.{yes}
+use Rattle.diagram.specs.Runs.{told, Run, start, AnswersRight}
 use Rattle.worked.specs.Two.{ShortRow, OfTwo}
+use Rattle.worked.proofs.Going.{yes, granted, ok_not_err, given, number_in, entry, answered}
 
 -- questions that are answered
-
-granted : {q refused rest : Type 0} → q → Asked q refused rest → rest
-granted q (inl x) = x.1
-granted q (inr x) = absurd (x.0 q)
-
-ok_not_err : {A B : Type 0} {a : A} {e : B} → Ok a ≡ Err e → ⊥
-ok_not_err e = true≢false (ap is_ok e)
 
 abbrev refusal_or : {A : Type 0} → Refusal → Result A Refusal → Refusal
 refusal_or why (Ok x) = why
 refusal_or why (Err e) = e
-
--- something was answered, so it has the answer yes
-given : {A q rest : Type 0} {a : A} {e : Refusal} → Asked q (Ok a ≡ Err e) rest → q × rest
-given (inl x) = x
-given (inr x) = absurd (ok_not_err x.1)
 
 -- nothing was answered, so the question has the answer no
 denied : {A B q told_so rest : Type 0} {r : Result A Refusal} {why e : Refusal} → r ≡ Err why → (told_so → ⊥) → Asked q (◌≡◌ {A = Result B Refusal} (Err why) (Err e)) told_so → Asked q (r ≡ Err e) rest
@@ -54,10 +41,6 @@ denied is none (inl x) = absurd (none x.1)
 denied {why} is none (inr x) = inr (x.0, is ∙ ap Err (ap (refusal_or why) x.1))
 
 module _ {P W : Type 0} where
-  abbrev number_in : Reply P W → ℕ
-  number_in (Ok (number k)) = k
-  number_in _ = 0
-
   abbrev two_in : W × W → Reply P W → W × W
   two_in x (Ok (two_weights met all)) = (met, all)
   two_in x _ = x
@@ -104,9 +87,6 @@ module _ {P W : Type 0} (kind : Performance.Ghosts P) (weights : Weight.Ghosts W
   abbrev Terms : Type 0
   Terms = List (Term P W)
 
-  abbrev entry : Call P W → ℕ → Reply P W → Entry P W
-  entry call lent reply = record { call = call; lent = lent; reply = reply }
-
   abbrev numbered : Result ℕ Refusal → Reply P W
   numbered r = told number r
 
@@ -119,15 +99,6 @@ module _ {P W : Type 0} (kind : Performance.Ghosts P) (weights : Weight.Ghosts W
       last : {q : Type 0} {row : Terms} → Asked q (TooLong t s r t' s') ((r ≡ Ok (length row)) × NodeCollected t t' k (length row) × RowPut k row s s') → length s' ≡ length s
       last (inl (short, x)) = x.2.others.as_long
       last (inr (long, x)) = x.store.as_long
-
-  module _ (promise : AnswersRight kind weights) where
-    -- one call more, lent the store as it was left: its answer is right, and the run goes on
-    answered : {h : History P W} {d : Diagram P W} {s : Terms} (d' : Diagram P W) (call : Call P W) (left : Terms) (reply : Reply P W) →
-        Run kind weights h d s → 3200 ≤ length s → Performs kind weights call (records d) s reply (records d') left →
-        RightAnswer kind weights h reply call × Run kind weights (entry call (length s) reply ∷ h) d' left
-    answered {s} d' call left reply run roomy taken =
-        let on = next call s left reply run roomy refl taken in
-        (granted roomy (promise _ d' left on).0, on)
 
   module _ (way : Way) (xs ys : Terms) where
     abbrev all : Terms
@@ -220,19 +191,19 @@ module _ {P W : Type 0} (kind : Performance.Ghosts P) (weights : Weight.Ghosts W
 
     pub stops_at_one : (d₁ : Diagram P W) (s₁ : Terms) (why : Refusal) → Added kind weights (records d₀) s₀ xs (Err why) (records d₁) s₁ → (r : Result (W × W) Refusal) → r ≡ Err why → Owed r
     stops_at_one d₁ s₁ why x r is =
-        let said = answered promise d₁ (adding xs) s₁ (Err why) (start new) roomy (Err why, x, refl) in
+        let said = answered kind weights promise d₁ (adding xs) s₁ (Err why) (start new) roomy (Err why, x, refl) in
         yes roomy (denied is (λ e. ok_not_err (sym e)) (one_right way xs ys (Err why) said.0))
 
     module _ (a : ℕ) (d₁ : Diagram P W) (s₁ : Terms) (x₁ : Added kind weights (records d₀) s₀ xs (Ok a) (records d₁) s₁) where
       first_made : EnoughStates (length xs) × (a ≡ 0) × Run kind weights (after_one way xs ys (length s₀)) d₁ s₁ × (3200 ≤ length s₁)
       first_made =
-          let said = answered promise d₁ (adding xs) s₁ (Ok (number a)) (start new) roomy (Ok a, x₁, refl) in
+          let said = answered kind weights promise d₁ (adding xs) s₁ (Ok (number a)) (start new) roomy (Ok a, x₁, refl) in
           let so = given (one_right way xs ys (Ok (number a)) said.0) in
           (so.0, ap number_in so.1, subst (λ z. Run kind weights (entry (adding xs) (length s₀) z ∷ []) d₁ s₁) so.1 said.1, omega (arith, roomy, added_long (records d₀) (records d₁) s₀ s₁ xs (Ok a) x₁))
 
       pub stops_at_two : (d₂ : Diagram P W) (s₂ : Terms) (why : Refusal) → Added kind weights (records d₁) s₁ ys (Err why) (records d₂) s₂ → (r : Result (W × W) Refusal) → r ≡ Err why → Owed r
       stops_at_two d₂ s₂ why x r is =
-          let said = answered promise d₂ (adding ys) s₂ (Err why) first_made.2 first_made.3 (Err why, x, refl) in
+          let said = answered kind weights promise d₂ (adding ys) s₂ (Err why) first_made.2 first_made.3 (Err why, x, refl) in
           yes roomy (yes first_made.0 (denied is (λ e. ok_not_err (sym e)) (two_right way xs ys (length s₀) (Err why) said.0)))
 
       module _ (b : ℕ) (d₂ : Diagram P W) (s₂ : Terms) (x₂ : Added kind weights (records d₁) s₁ ys (Ok b) (records d₂) s₂) where
@@ -241,7 +212,7 @@ module _ {P W : Type 0} (kind : Performance.Ghosts P) (weights : Weight.Ghosts W
 
         second_made : EnoughStates (length ys) × (b ≡ 1) × Run kind weights so_far d₂ s₂ × (3200 ≤ length s₂)
         second_made =
-            let said = answered promise d₂ (adding ys) s₂ (Ok (number b)) first_made.2 first_made.3 (Ok b, x₂, refl) in
+            let said = answered kind weights promise d₂ (adding ys) s₂ (Ok (number b)) first_made.2 first_made.3 (Ok b, x₂, refl) in
             let so = given (two_right way xs ys (length s₀) (Ok (number b)) said.0) in
             (so.0, ap number_in so.1, subst (λ z. Run kind weights (entry (adding ys) (length s₁) z ∷ after_one way xs ys (length s₀)) d₂ s₂) so.1 said.1, omega (arith, first_made.3, added_long (records d₁) (records d₂) s₁ s₂ ys (Ok b) x₂))
 
@@ -251,7 +222,7 @@ module _ {P W : Type 0} (kind : Performance.Ghosts P) (weights : Weight.Ghosts W
         joins_these d₃ r x =
             let second = subst (λ z. Joins kind weights (records d₂) s₂ (Joined way) (a ∷ z ∷ []) r (records d₃)) second_made.1 x in
             let both = subst (λ z. Joins kind weights (records d₂) s₂ (Joined way) (z ∷ 1 ∷ []) r (records d₃)) first_made.1 second in
-            let said = answered promise d₃ (joining way (0 ∷ 1 ∷ [])) s₂ (numbered r) second_made.2 second_made.3 (r, both, refl, refl) in
+            let said = answered kind weights promise d₃ (joining way (0 ∷ 1 ∷ [])) s₂ (numbered r) second_made.2 second_made.3 (r, both, refl, refl) in
             (joining_right way xs ys (length s₀) (length s₁) (numbered r) said.0, said.1)
 
         pub stops_at_joining : (d₃ : Diagram P W) (why : Refusal) → Joins kind weights (records d₂) s₂ (Joined way) (a ∷ b ∷ []) (Err why) (records d₃) → (r : Result (W × W) Refusal) → Owed r
@@ -269,7 +240,7 @@ module _ {P W : Type 0} (kind : Performance.Ghosts P) (weights : Weight.Ghosts W
           collects_it : (d₄ : Diagram P W) (s₄ : Terms) (r : Result ℕ Refusal) → Collected kind weights (records d₃) s₂ k r (records d₄) s₄ →
               Asked (ShortRow kind weights way xs ys) (numbered r ≡ Err LongResult) ((size : ℕ) × (numbered r ≡ Ok (number size))) × Run kind weights (entry (collecting 2) (length s₂) (numbered r) ∷ now) d₄ s₄
           collects_it d₄ s₄ r x =
-              let said = answered promise d₄ (collecting 2) s₄ (numbered r) two_joined.1 second_made.3 (r, subst (λ z. Collected kind weights (records d₃) s₂ z r (records d₄) s₄) two_joined.0 x, refl) in
+              let said = answered kind weights promise d₄ (collecting 2) s₄ (numbered r) two_joined.1 second_made.3 (r, subst (λ z. Collected kind weights (records d₃) s₂ z r (records d₄) s₄) two_joined.0 x, refl) in
               (collecting_right way xs ys weigh (length s₀) (length s₁) (length s₂) (numbered r) said.0, said.1)
 
           pub stops_at_collecting : (d₄ : Diagram P W) (s₄ : Terms) (why : Refusal) → Collected kind weights (records d₃) s₂ k (Err why) (records d₄) s₄ → (r : Result (W × W) Refusal) → r ≡ Err why → Owed r
@@ -282,6 +253,6 @@ module _ {P W : Type 0} (kind : Performance.Ghosts P) (weights : Weight.Ghosts W
                 let was = collects_it d₄ s₄ (Ok size) x₄ in
                 let long : 3200 ≤ length s₄ = omega (arith, second_made.3, collected_long (records d₃) (records d₄) s₂ s₄ k (Ok size) x₄) in
                 let reply : Reply P W = told (λ w. two_weights w.0 w.1) r in
-                let said = answered promise d₄ (asking 2 (availability demand)) s₄ reply was.1 long ((r, subst (λ z. TellsAvailability kind weights (records d₄) s₄ z demand r) two_joined.0 x, refl), refl, refl) in
+                let said = answered kind weights promise d₄ (asking 2 (availability demand)) s₄ reply was.1 long ((r, subst (λ z. TellsAvailability kind weights (records d₄) s₄ z demand r) two_joined.0 x, refl), refl, refl) in
                 yes roomy (yes first_made.0 (yes second_made.0 (yes (given was.0).0
                 (untold r _ _ (asking_right way xs ys weigh (length s₀) (length s₁) (length s₂) laws (length s₂) size demand reply said.0)))))

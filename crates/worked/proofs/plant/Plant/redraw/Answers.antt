@@ -4,14 +4,14 @@ use Rattle.worked.proofs.Drawing.{Worked, worked_out}
 use Rattle.worked.proofs.plant.Plant.redraw.Given.{Over}
 use Rattle.worked.proofs.plant.Plant.redraw.Goals as goal
 
-worked : (g : Over) (c : goal.In_ok-collect-2 g) → Worked g.P.Performance (lawful_kind g.met.P.Performance) c.args.self.now
+worked : (g : Over) (c : goal.In_ok-collect-2 g) → Worked g.P.Performance (lawful_kind g.met.P.Performance) c.in_ok-diagram.ensures.answers_right c.args.self.now
     c.in_ok-diagram.diagram c.add.new.self c.add-2.new.self c.add-3.new.self c.join.new.self c.join-2.new.self c.collect.new.self c.collect-2.new.self
     c.args.store.now c.add.new.store c.add-2.new.store c.add-3.new.store c.collect.new.store c.collect-2.new.store
     c.in_ok-pump_a.pump_a c.in_ok-pump_b.pump_b c.in_ok-pipe.pipe c.in_ok-pumps.pumps c.in_ok-plant.plant c.in_ok-collect.field-0 c.in_ok-collect-2.field-0
     (1 ∷ 0 ∷ []) (2 ∷ 3 ∷ [])
     (c.in_ok-pump_b.pump_b ∷ c.in_ok-pump_a.pump_a ∷ [])
     (c.in_ok-pipe.pipe ∷ c.in_ok-pumps.pumps ∷ [])
-worked g c = worked_out g.P.Performance (lawful_kind g.met.P.Performance) c.args.self.now _ _ _ _ _ _ _ _ _ _ _ _ _ _ _ _ _ _ _ _ _ _ _ _ _
+worked g c = worked_out g.P.Performance (lawful_kind g.met.P.Performance) c.in_ok-diagram.ensures.answers_right c.args.self.now _ _ _ _ _ _ _ _ _ _ _ _ _ _ _ _ _ _ _ _ _ _ _ _ _
     c.in_ok-diagram.ensures.made c.in_ok-pump_a.ensures c.in_ok-pump_b.ensures c.in_ok-pipe.ensures c.in_ok-pumps.ensures c.in_ok-plant.ensures
     c.in_ok-collect.ensures c.in_ok-collect-2.ensures (λ e f i. f i ∷ e i ∷ []) (λ e f i. f i ∷ e i ∷ [])
 
