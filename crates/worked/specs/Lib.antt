@@ -1,6 +1,7 @@
 pub mod Answering
 pub mod Binaries
 pub mod Examples
+pub mod Flows
 pub mod Lines
 pub mod Plants
 pub mod Refusals

@@ -1,6 +1,8 @@
 // The plant by what flows through it.
-ghost use Rattle.std.specs.Prelude.{◌≡◌};
+ghost use Rattle.std.specs.Prelude.{◌≡◌, IfOk};
+ghost use Rattle.diagram.specs.Shown.{records};
 ghost use Rattle.worked.specs.Examples.{pump_a, pump_b, pipe};
+ghost use Rattle.worked.specs.Flows.{PlantAnswers, RedrawnAnswers, PumpsAlone};
 
 use crate::answers::{Answers, Row};
 use crate::lines::Line;
@@ -8,6 +10,7 @@ use crate::plant::{Drawn, Plant, STORE, state};
 use crate::refusals::{refused, told};
 use crate::two::availability_of_two;
 use anyhow::ensure;
+use diagram::refusal::Refusal;
 use kinds::values::{Flow, Parts};
 use terms::term::{Term, Way};
 
@@ -24,7 +27,7 @@ fn parts() -> Plant<Flow>
     }
 }
 
-pub fn flow_plant(rt: &HostRuntime) -> anyhow::Result<()> {
+pub(crate) fn flow_plant(rt: &HostRuntime) -> anyhow::Result<()> {
     let parts = parts();
     show_parts(rt, &parts)?;
     let mut store = [state(0, 0); STORE];
@@ -32,9 +35,9 @@ pub fn flow_plant(rt: &HostRuntime) -> anyhow::Result<()> {
     rt.println("Worked out:")?;
     let answers = show_answers(rt, &drawn, &store)?;
     pumps_at_once(rt, &parts)?;
-    second_drawing(rt, &parts, &answers)?;
+    compare(rt, &answers, &second_drawing(rt, &parts)?)?;
     overhaul(rt, &mut drawn, &mut store)?;
-    refused_calls(rt, &mut drawn, &mut store)
+    refused_calls(rt, &mut drawn, &store)
 }
 
 fn show_parts(rt: &HostRuntime, parts: &Plant<Flow>) -> anyhow::Result<()> {
@@ -46,7 +49,9 @@ fn show_parts(rt: &HostRuntime, parts: &Plant<Flow>) -> anyhow::Result<()> {
 }
 
 // Prints what the pumps and the plant answer, and answers what the plant does.
-fn show_answers(rt: &HostRuntime, drawn: &Drawn<Flow>, store: &[State]) -> anyhow::Result<Answers> {
+fn show_answers(rt: &HostRuntime, drawn: &Drawn<Flow>, store: &[State]) -> anyhow::Result<Answers>
+    ensures { IfOk result (PlantAnswers drawn.now store.now) }
+{
     let (diagram, nodes) = (&drawn.diagram, drawn.nodes);
     let pumps = told(Row::of(diagram, store, nodes.pumps), "asking the pumps")?;
     rt.println(Line::new("both pumps", pumps.terms()))?;
@@ -58,29 +63,41 @@ fn show_answers(rt: &HostRuntime, drawn: &Drawn<Flow>, store: &[State]) -> anyho
     Ok(plant)
 }
 
-// The pumps alone, joined and asked in one call.
-fn pumps_at_once(rt: &HostRuntime, parts: &Plant<Flow>) -> anyhow::Result<()> {
+// What of the pumps alone meets a need of 3, joined and asked in one call.
+fn pumps_alone(parts: &Plant<Flow>) -> Result<(Parts, Parts), Refusal>
+    ensures { PumpsAlone parts.now result }
+{
     let mut store = [state(0, 0); STORE];
     let (a, b) = (&parts.pump_a, &parts.pump_b);
-    let answer = availability_of_two(Way::Parallel, a, b, Flow::new(3), &mut store);
-    let (met, all) = told(answer, "asking the pumps at once")?;
+    availability_of_two(Way::Parallel, a, b, Flow::new(3), &mut store)
+}
+
+fn pumps_at_once(rt: &HostRuntime, parts: &Plant<Flow>) -> anyhow::Result<()> {
+    let (met, all) = told(pumps_alone(parts), "asking the pumps at once")?;
     println!(rt; "the pumps alone meet a need of 3 in {met} of {all} parts")?;
     Ok(())
 }
 
-// The plant drawn the other way round, in a diagram and a store of its own, answers the same.
-fn second_drawing(rt: &HostRuntime, parts: &Plant<Flow>, first: &Answers) -> anyhow::Result<()> {
+// The plant drawn the other way round, in a diagram and a store of its own; answers what it does.
+fn second_drawing(rt: &HostRuntime, parts: &Plant<Flow>) -> anyhow::Result<Answers>
+    ensures { IfOk result (RedrawnAnswers parts.now) }
+{
     let mut store = [state(0, 0); STORE];
     let drawn = told(parts.redraw(&mut store), "drawing it again")?;
     rt.println("Drawn the other way round, the pipe first and the pumps exchanged:")?;
-    let second = show_answers(rt, &drawn, &store)?;
-    ensure!(second == *first, "the second drawing answers otherwise");
+    show_answers(rt, &drawn, &store)
+}
+
+fn compare(rt: &HostRuntime, first: &Answers, second: &Answers) -> anyhow::Result<()> {
+    ensure!(*second == *first, "the second drawing answers otherwise");
     rt.println("the answers are the same")?;
     Ok(())
 }
 
 // Pump A gets new states: the plant is stale until it is collected again.
-fn overhaul(rt: &HostRuntime, drawn: &mut Drawn<Flow>, store: &mut [State]) -> anyhow::Result<()> {
+fn overhaul(rt: &HostRuntime, drawn: &mut Drawn<Flow>, store: &mut [State]) -> anyhow::Result<()>
+    ensures { drawn.new.nodes ≡ drawn.old.nodes }
+{
     let states = [state(0, 1), state(5, 9)];
     told(drawn.overhaul(store, &states), "restating pump A")?;
     rt.println("Pump A is overhauled:")?;
@@ -100,11 +117,10 @@ fn overhaul(rt: &HostRuntime, drawn: &mut Drawn<Flow>, store: &mut [State]) -> a
 }
 
 // Calls that are refused change nothing.
-fn refused_calls(
-    rt: &HostRuntime,
-    drawn: &mut Drawn<Flow>,
-    store: &mut [State],
-) -> anyhow::Result<()> {
+fn refused_calls(rt: &HostRuntime, drawn: &mut Drawn<Flow>, store: &[State]) -> anyhow::Result<()>
+    ensures records { IfOk result (λ _. records drawn.new.diagram ≡ records drawn.old.diagram) }
+    ensures nodes { drawn.new.nodes ≡ drawn.old.nodes }
+{
     let (diagram, nodes) = (&mut drawn.diagram, drawn.nodes);
     rt.println("Refused:")?;
     let again = diagram.join(store, Way::Parallel, &[nodes.pump_a, nodes.plant]);

@@ -1,0 +1,33 @@
+-- What the plant answers by what flows through it.
+use Rattle.std.specs.Prelude.{List, Result}
+use Rattle.kinds.specs.Named.{Flow, Parts}
+use Rattle.kinds.specs.Words.{capped_word}
+use Rattle.kinds.specs.contracts.flow.FlowPerformance.TheImpl as flow_kind
+use Rattle.kinds.specs.contracts.parts.PartsWeight.TheImpl as parts_weight
+use Rattle.terms.specs.declared.term.Term.{Term}
+use Rattle.terms.specs.declared.term.Way.TheVariants.{Parallel}
+use Rattle.diagram.specs.declared.refusal.Refusal.{Refusal}
+use Rattle.diagram.specs.Shown.{records}
+use Rattle.diagram.specs.Store.{row_at}
+use Rattle.worked.specs.declared.answers.Answers.{Answers}
+use Rattle.worked.specs.declared.plant.Drawn.{Drawn}
+use Rattle.worked.specs.declared.plant.Plant.{Plant}
+use Rattle.worked.specs.Answering.{AnswersOf}
+use Rattle.worked.specs.Plants.{RowOfDrawing, redrawn}
+use Rattle.worked.specs.Two.{OfTwo}
+
+-- these are the row and the needs of this row
+abbrev pub Answered : List (Term Flow Parts) → Answers → Type 0
+Answered row a = AnswersOf row a.row a.three a.four a.five
+
+-- so answers the whole plant in this diagram
+abbrev pub PlantAnswers : Drawn Flow → List (Term Flow Parts) → Answers → Type 0
+PlantAnswers d store = Answered (row_at (records d.diagram) store d.nodes.plant)
+
+-- so answers the plant drawn the other way round, by the row of all its combinations
+abbrev pub RedrawnAnswers : Plant Flow → Answers → Type 0
+RedrawnAnswers p a = (row : List (Term Flow Parts)) × RowOfDrawing flow_kind.ghosts p redrawn row × Answered row a
+
+-- what of the pumps in parallel meets a need of 3
+abbrev pub PumpsAlone : Plant Flow → Result (Parts × Parts) Refusal → Type 0
+PumpsAlone p = OfTwo flow_kind.ghosts parts_weight.ghosts Parallel p.pump_a p.pump_b (capped_word 3) 3200
