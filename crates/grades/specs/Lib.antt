@@ -5,3 +5,5 @@ pub mod Batched
 pub mod BatchesLaws
 pub mod Shares
 pub mod Steps
+pub mod Plants
+pub mod Lines

@@ -14,11 +14,16 @@ use Rattle.grades.specs.contracts.grading.GradePerformance.TheImpl.{ghosts as gr
 use Rattle.grades.specs.contracts.batching.BatchesWeight.TheImpl.{ghosts as batches}
 use Rattle.grades.specs.declared.batches.Batches.{Batches}
 use Rattle.grades.specs.declared.grade.Grade.{Grade}
+use Rattle.grades.specs.declared.share.Joined.{Joined}
 use Rattle.grades.specs.declared.share.Nodes.{Nodes}
 
 -- the parts' numbers, as they are made
 abbrev pub in_order : Nodes
 in_order = record { first = 0; second = 1; finishing = 2 }
+
+-- the joined nodes' numbers, as they are made
+abbrev pub joined_in_order : Joined
+joined_in_order = record { lines = 3; whole = 4 }
 
 -- a node was collected, and its row had so many terms
 abbrev pub collected : ℕ → ℕ → ℕ → Entry Grade Batches
@@ -44,6 +49,10 @@ module _ (first second finishing : List (Term Grade Batches)) where
         (Asked (EnoughStates (length second)) (r ≡ Err WrongStates)
         (Asked (EnoughStates (length finishing)) (r ≡ Err WrongStates)
         ((r ≡ Ok in_order) × Run grades batches (history_of lent parts_made) d s)))
+
+    -- the parts are joined
+    abbrev pub PartsJoined : Result Joined Refusal → Type 0
+    PartsJoined r = (r ≡ Ok joined_in_order) × Run grades batches (history_of lent nodes_made) d s
 
     -- the parts are joined and worked out, as node 4
     abbrev pub WorkedOut : Result ℕ Refusal → Type 0

@@ -1,6 +1,9 @@
 // What calls answer, and what nodes tell.
-ghost use Rattle.std.specs.Prelude.{◌≡◌, MatchResult, Ok, Err};
+ghost use Rattle.std.specs.Prelude.{◌≡◌, MatchResult, Ok, Err, Some, IfOk};
 ghost use Rattle.diagram.specs.Refusals.{number_of};
+ghost use Rattle.diagram.specs.Shown.{records};
+ghost use Rattle.diagram.specs.Store.{row_at};
+ghost use Rattle.grades.specs.Lines.{share_text, text_of_share};
 
 use crate::batches::Batches;
 use crate::grade::Grade;
@@ -8,6 +11,7 @@ use crate::share::State;
 use anyhow::{anyhow, bail};
 use diagram::diagram::Diagram;
 use diagram::refusal::Refusal;
+use std::fmt;
 
 // What a call answers; a refusal becomes an error of the program.
 pub fn told<T: Drop>(answer: Result<T, Refusal>) -> anyhow::Result<T>
@@ -26,8 +30,42 @@ pub fn refused<T: Drop>(answer: Result<T, Refusal>) -> anyhow::Result<u8>
     }
 }
 
+// How much of a node is of a grade or better.
+#[derive(Clone, Copy)]
+struct Share {
+    grade: Grade,
+    met: Batches,
+    all: Batches,
+}
+
+impl Share {
+    // As node k of the diagram answers it.
+    fn of(
+        diagram: &Diagram<Grade, Batches>,
+        store: &[State],
+        k: usize,
+        grade: Grade,
+    ) -> Result<Share, Refusal>
+        ensures { IfOk result (λ s. share_text s.grade s.met s.all ≡ text_of_share grade (row_at (records diagram.now) store.now k)) }
+    {
+        let (met, all) = diagram.availability(store, k, grade)?;
+        Ok(Share { grade, met, all })
+    }
+}
+
+impl fmt::Display for Share {
+    ghost output = { λ s. Some (share_text s.grade s.met s.all) };
+
+    fn fmt<W: fmt::Write>(&self, f: &mut fmt::Formatter<W>) -> fmt::Result {
+        let grade = self.grade;
+        let met = self.met;
+        let all = self.all;
+        write!(f, "grade {grade} or better: {met} of {all} batches")
+    }
+}
+
 // Prints the row of node k, and how much of it is of this grade or better.
-pub fn show(
+pub(crate) fn show(
     rt: &HostRuntime,
     diagram: &Diagram<Grade, Batches>,
     store: &[State],
@@ -39,7 +77,7 @@ pub fn show(
         let state = told(diagram.term(store, k, i))?;
         println!(rt; "  grade {}: {} batches", state.performance, state.weight)?;
     }
-    let (met, all) = told(diagram.availability(store, k, grade))?;
-    println!(rt; "  grade {grade} or better: {met} of {all} batches")?;
+    let share = told(Share::of(diagram, store, k, grade))?;
+    println!(rt; "  {share}")?;
     Ok(())
 }

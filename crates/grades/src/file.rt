@@ -30,7 +30,7 @@ const FILE: [u8; 89] = [
 // Where the first grade stands in the file.
 const FIRST_GRADE: usize = 10;
 
-pub fn by_file(rt: &HostRuntime) -> anyhow::Result<()> {
+pub(crate) fn by_file(rt: &HostRuntime) -> anyhow::Result<()> {
     rt.println("From a file:")?;
     show_file(rt, &FILE)?;
     let mut damaged = FILE;

@@ -1,12 +1,14 @@
 // A plant drawn by calls: two lines in parallel, and then a finishing step.
+ghost use Rattle.std.specs.Prelude.{◌≡◌, length};
+ghost use Rattle.diagram.specs.Shown.{records};
+
 use crate::answers::{refused, show, told};
 use crate::batches::Batches;
 use crate::grade::Grade;
 use crate::numbered::{grade, state};
-use crate::share::{State, share_of_grade};
+use crate::share::{State, add_parts, join_parts, share_of_grade};
 use diagram::diagram::Diagram;
 use diagram::refusal::Refusal;
-use terms::term::Way;
 
 // The states of the parts, and the grade that is asked for.
 #[derive(Clone, Copy)]
@@ -36,30 +38,43 @@ struct Plant {
 }
 
 impl Plant {
-    fn draw(parts: &States, store: &mut [State]) -> Result<Plant, Refusal> {
+    ghost use Rattle.std.specs.Prelude.{IfOk};
+    ghost use Rattle.grades.specs.Plants.{Stands, BothCollected};
+
+    fn draw(parts: &States, store: &mut [State]) -> Result<Plant, Refusal>
+        ensures { IfOk result (Stands parts.now (length store.old) store.new) }
+    {
         let mut diagram = Diagram::new(store)?;
-        let first = diagram.add(store, &parts.first)?;
-        let second = diagram.add(store, &parts.second)?;
-        let finishing = diagram.add(store, &parts.finishing)?;
-        let lines = diagram.join(store, Way::Parallel, &[first, second])?;
-        let whole = diagram.join(store, Way::Series, &[lines, finishing])?;
+        let nodes = add_parts(
+            &mut diagram,
+            &parts.first,
+            &parts.second,
+            &parts.finishing,
+            store,
+        )?;
+        let joined = join_parts(&mut diagram, nodes, store)?;
         Ok(Plant {
             diagram,
-            first,
-            lines,
-            whole,
+            first: nodes.first,
+            lines: joined.lines,
+            whole: joined.whole,
         })
     }
 
     // Works out the lines, and then the whole.
-    fn collect(&mut self, store: &mut [State]) -> Result<(), Refusal> {
+    fn collect(&mut self, store: &mut [State]) -> Result<(), Refusal>
+        ensures collected { IfOk result (λ _. BothCollected (records self.old.diagram) store.old self.old.lines self.old.whole (records self.new.diagram) store.new) }
+        ensures first { self.new.first ≡ self.old.first }
+        ensures lines { self.new.lines ≡ self.old.lines }
+        ensures whole { self.new.whole ≡ self.old.whole }
+    {
         self.diagram.collect(store, self.lines)?;
         self.diagram.collect(store, self.whole)?;
         Ok(())
     }
 }
 
-pub fn by_calls(rt: &HostRuntime) -> anyhow::Result<()> {
+pub(crate) fn by_calls(rt: &HostRuntime) -> anyhow::Result<()> {
     let parts = given()?;
     let mut store = [state(0, 0)?; 3200];
     let mut plant = told(Plant::draw(&parts, &mut store))?;

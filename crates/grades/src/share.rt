@@ -8,7 +8,7 @@ ghost use Rattle.files.specs.Drawn.{history_of};
 ghost use Rattle.grades.specs.declared.batches.Batches.{Batches};
 ghost use Rattle.grades.specs.declared.grade.Grade.{Grade};
 ghost use Rattle.grades.specs.Shares.{ShareOf};
-ghost use Rattle.grades.specs.Steps.{in_order, parts_made, PartsAdded, WorkedOut};
+ghost use Rattle.grades.specs.Steps.{in_order, parts_made, PartsAdded, PartsJoined, WorkedOut};
 
 use crate::batches::Batches;
 use crate::grade::Grade;
@@ -25,10 +25,17 @@ pub type State = Term<Grade, Batches>;
 
 // The numbers of a plant's parts.
 #[derive(Clone, Copy)]
-struct Nodes {
-    first: usize,
-    second: usize,
-    finishing: usize,
+pub(crate) struct Nodes {
+    pub(crate) first: usize,
+    pub(crate) second: usize,
+    pub(crate) finishing: usize,
+}
+
+// The numbers of what is joined from them: both lines, and the whole.
+#[derive(Clone, Copy)]
+pub(crate) struct Joined {
+    pub(crate) lines: usize,
+    pub(crate) whole: usize,
 }
 
 // Two lines in parallel and then a finishing step: how many batches are of this grade or better, and how many there are.
@@ -50,7 +57,7 @@ pub fn share_of_grade(
 }
 
 // The two lines and the finishing step, added to a new diagram.
-fn add_parts(
+pub(crate) fn add_parts(
     plant: &mut Diagram<Grade, Batches>,
     first: &[State],
     second: &[State],
@@ -68,7 +75,23 @@ fn add_parts(
     })
 }
 
-// The lines in parallel, then the finishing step in series, worked out.
+// The lines joined in parallel, then the finishing step in series.
+pub(crate) fn join_parts(
+    plant: &mut Diagram<Grade, Batches>,
+    parts: Nodes,
+    store: &[State],
+) -> Result<Joined, Refusal>
+    requires roomy { 3200 ≤ length store.now }
+    requires right { AnswersRight ⟦<Grade as Performance>⟧ ⟦<Batches as Weight>⟧ }
+    requires parts { parts ≡ in_order }
+    ensures { (first second finishing : List (Term Grade Batches)) → Run ⟦<Grade as Performance>⟧ ⟦<Batches as Weight>⟧ (history_of (length store.now) (parts_made first second finishing)) plant.old store.now → PartsJoined first second finishing (length store.now) plant.new store.now result }
+{
+    let lines = plant.join(store, Way::Parallel, &[parts.first, parts.second])?;
+    let whole = plant.join(store, Way::Series, &[lines, parts.finishing])?;
+    Ok(Joined { lines, whole })
+}
+
+// The parts joined and worked out; answers the number of the whole.
 fn work_out(
     plant: &mut Diagram<Grade, Batches>,
     parts: Nodes,
@@ -79,9 +102,8 @@ fn work_out(
     requires parts { parts ≡ in_order }
     ensures { (first second finishing : List (Term Grade Batches)) → Run ⟦<Grade as Performance>⟧ ⟦<Batches as Weight>⟧ (history_of (length store.old) (parts_made first second finishing)) plant.old store.old → WorkedOut first second finishing (length store.old) plant.new store.new result }
 {
-    let lines = plant.join(store, Way::Parallel, &[parts.first, parts.second])?;
-    let whole = plant.join(store, Way::Series, &[lines, parts.finishing])?;
-    plant.collect(store, lines)?;
-    plant.collect(store, whole)?;
-    Ok(whole)
+    let joined = join_parts(plant, parts, store)?;
+    plant.collect(store, joined.lines)?;
+    plant.collect(store, joined.whole)?;
+    Ok(joined.whole)
 }
