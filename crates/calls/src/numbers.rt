@@ -1,11 +1,12 @@
 // The numbers that stand after a call's name, and what they write.
+ghost use Rattle.std.specs.Prelude.{◌≡◌, IfOk};
 
 use crate::written::Written;
 use anyhow::bail;
 use kinds::values::Parts;
 use terms::term::Term;
 
-pub fn numbers(rt: &HostRuntime, text: &str) -> anyhow::Result<Vec<u32>> {
+pub(crate) fn numbers(rt: &HostRuntime, text: &str) -> anyhow::Result<Vec<u32>> {
     let mut found = Vec::new(rt.alloc());
     for word in text.split_whitespace() {
         let Ok(number) = word.parse::<u32>() else {
@@ -17,7 +18,9 @@ pub fn numbers(rt: &HostRuntime, text: &str) -> anyhow::Result<Vec<u32>> {
 }
 
 // Numbers of nodes.
-pub fn nodes(rt: &HostRuntime, numbers: &[u32]) -> anyhow::Result<Vec<usize>> {
+pub(crate) fn nodes(rt: &HostRuntime, numbers: &[u32]) -> anyhow::Result<Vec<usize>>
+    ensures { IfOk result (λ found. found.items ≡ numbers.now) }
+{
     let mut found = Vec::new(rt.alloc());
     for &number in numbers {
         found.push(number as usize)?;
@@ -25,7 +28,7 @@ pub fn nodes(rt: &HostRuntime, numbers: &[u32]) -> anyhow::Result<Vec<usize>> {
     Ok(found)
 }
 
-pub fn performance<P: Written>(high: u32, low: u32) -> anyhow::Result<P> {
+pub(crate) fn performance<P: Written>(high: u32, low: u32) -> anyhow::Result<P> {
     let Some(performance) = P::of_words(high, low) else {
         bail!("the words {high} and {low} write no performance");
     };
@@ -33,7 +36,7 @@ pub fn performance<P: Written>(high: u32, low: u32) -> anyhow::Result<P> {
 }
 
 // States: two words and a weight each.
-pub fn states<P: Written>(
+pub(crate) fn states<P: Written>(
     rt: &HostRuntime,
     numbers: &[u32],
 ) -> anyhow::Result<Vec<Term<P, Parts>>> {

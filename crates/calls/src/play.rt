@@ -1,4 +1,5 @@
 // A sequence of calls, made on a diagram.
+ghost use Rattle.std.specs.Prelude.{◌≡◌, IfOk};
 
 use crate::numbers;
 use crate::written::Written;
@@ -109,8 +110,42 @@ fn call<P: Performance + Written>(
     }
 }
 
+// That a call is answered other than it is to be becomes an error.
+fn compare(asked: &str, said: &str, wanted: &str) -> anyhow::Result<()>
+    ensures { IfOk result (λ _. said.now ≡ wanted.now) }
+{
+    if said != wanted {
+        bail!("{asked} is answered {said}, and not {wanted}");
+    }
+    Ok(())
+}
+
+// Makes the call of a line, which says after it what is to be answered.
+fn play_line<P: Performance + Written>(
+    rt: &HostRuntime,
+    diagram: &mut Diagram<P, Parts>,
+    store: &mut [Term<P, Parts>],
+    line: &str,
+) -> anyhow::Result<()> {
+    let Some((asked, wanted)) = line.split_once(" = ") else {
+        bail!("no answer is wanted of: {line}");
+    };
+    let (asked, len) = match asked.strip_prefix("short ") {
+        Some(asked) => (asked, SHORT),
+        None => (asked, STORE),
+    };
+    let Some((lent, _)) = store.split_at_mut_checked(len) else {
+        bail!("the store has fewer than {len} terms");
+    };
+    let said = call(rt, diagram, lent, asked)?;
+    compare(asked, said.as_str(), wanted)
+}
+
 // Makes the calls, one a line, and answers how many; an error where one is answered other than it says.
-pub fn play<P: Performance + Written>(rt: &HostRuntime, calls: &str) -> anyhow::Result<usize> {
+pub(crate) fn play<P: Performance + Written>(
+    rt: &HostRuntime,
+    calls: &str,
+) -> anyhow::Result<usize> {
     let blank = Term {
         performance: numbers::performance::<P>(0, 0)?,
         weight: Parts::new(0),
@@ -121,20 +156,7 @@ pub fn play<P: Performance + Written>(rt: &HostRuntime, calls: &str) -> anyhow::
     };
     let mut made = 0usize;
     for line in calls.lines() {
-        let Some((asked, wanted)) = line.split_once(" = ") else {
-            bail!("no answer is wanted of: {line}");
-        };
-        let (asked, len) = match asked.strip_prefix("short ") {
-            Some(asked) => (asked, SHORT),
-            None => (asked, STORE),
-        };
-        let Some((lent, _)) = store.split_at_mut_checked(len) else {
-            bail!("the store has fewer than {len} terms");
-        };
-        let said = call(rt, &mut diagram, lent, asked)?;
-        if said.as_str() != wanted {
-            bail!("{asked} is answered {said}, and not {wanted}");
-        }
+        play_line(rt, &mut diagram, &mut store, line)?;
         made = made.saturating_add(1);
     }
     Ok(made)
