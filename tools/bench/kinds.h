@@ -15,6 +15,15 @@ static inline u32 least(u32 a, u32 b) { return a < b ? a : b; }
 static inline u32 least4(u32 a, u32 b, u32 c, u32 d) { return least(least(a, b), least(c, d)); }
 static inline int order(u32 a, u32 b) { return a < b ? -1 : a > b; }
 
+/* The smallest of four capped sums: of two that c has no part in, and of a-c-e and b-c-d. */
+static inline u32 least_sum(u64 one, u64 other, u64 ae, u64 bd, u64 c) {
+#ifdef SHORTCUTS
+  return least(least(cap(one), cap(other)), cap(least(cap(ae), cap(bd)) + c));
+#else
+  return least4(cap(one), cap(other), cap(ae + c), cap(bd + c));
+#endif
+}
+
 /* kinds that are one word */
 #define WORD(K)                                                        \
   typedef struct { u32 v; } K;                                         \
@@ -27,12 +36,7 @@ WORD(Flow)
 static inline Flow series_Flow(Flow a, Flow b) { return (Flow){least(a.v, b.v)}; }
 static inline Flow parallel_Flow(Flow a, Flow b) { return (Flow){cap((u64)a.v + b.v)}; }
 static inline Flow bridge_Flow(Flow a, Flow b, Flow c, Flow d, Flow e) {
-#ifdef SHORTCUTS
-  u32 without = least(cap((u64)a.v + b.v), cap((u64)d.v + e.v)), with = least(cap((u64)a.v + e.v), cap((u64)b.v + d.v));
-  return (Flow){least(without, cap((u64)with + c.v))};
-#else
-  return (Flow){least4(cap((u64)a.v + b.v), cap((u64)d.v + e.v), cap((u64)a.v + c.v + e.v), cap((u64)b.v + c.v + d.v))};
-#endif
+  return (Flow){least_sum((u64)a.v + b.v, (u64)d.v + e.v, (u64)a.v + e.v, (u64)b.v + d.v, c.v)};
 }
 static inline int meets_Flow(Flow v, Flow w) { return v.v >= w.v; }
 
@@ -40,12 +44,7 @@ WORD(Delay)
 static inline Delay series_Delay(Delay a, Delay b) { return (Delay){cap((u64)a.v + b.v)}; }
 static inline Delay parallel_Delay(Delay a, Delay b) { return (Delay){least(a.v, b.v)}; }
 static inline Delay bridge_Delay(Delay a, Delay b, Delay c, Delay d, Delay e) {
-#ifdef SHORTCUTS
-  u32 without = least(cap((u64)a.v + d.v), cap((u64)b.v + e.v)), with = least(cap((u64)a.v + e.v), cap((u64)b.v + d.v));
-  return (Delay){least(without, cap((u64)with + c.v))};
-#else
-  return (Delay){least4(cap((u64)a.v + d.v), cap((u64)b.v + e.v), cap((u64)a.v + c.v + e.v), cap((u64)b.v + c.v + d.v))};
-#endif
+  return (Delay){least_sum((u64)a.v + d.v, (u64)b.v + e.v, (u64)a.v + e.v, (u64)b.v + d.v, c.v)};
 }
 static inline int meets_Delay(Delay v, Delay w) { return v.v <= w.v && v.v != TOP; }
 
