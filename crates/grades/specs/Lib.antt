@@ -7,3 +7,4 @@ pub mod Shares
 pub mod Steps
 pub mod Plants
 pub mod Lines
+pub mod Files

@@ -1,9 +1,11 @@
 -- The plant in a diagram: how it is drawn, and how it is worked out.
-use Rattle.std.specs.Prelude.{◌≡◌, ℕ, List, Ok}
+use Rattle.std.specs.Prelude.{◌≡◌, ℕ, List, [], ◌∷◌, map, Ok, Err}
 use Rattle.terms.specs.declared.term.Term.{Term}
+use Rattle.diagram.specs.declared.refusal.Refusal.{Refusal}
 use Rattle.diagram.specs.declared.table.Table.{Table}
-use Rattle.diagram.specs.Calls.{Collected}
+use Rattle.diagram.specs.Calls.{Restated, Collected}
 use Rattle.diagram.specs.Runs.{Run}
+use Rattle.diagram.specs.Shown.{records}
 use Rattle.files.specs.Drawn.{history_of}
 use Rattle.grades.specs.contracts.grading.GradePerformance.TheImpl.{ghosts as grades}
 use Rattle.grades.specs.contracts.batching.BatchesWeight.TheImpl.{ghosts as batches}
@@ -11,7 +13,20 @@ use Rattle.grades.specs.declared.batches.Batches.{Batches}
 use Rattle.grades.specs.declared.grade.Grade.{Grade}
 use Rattle.grades.specs.declared.plant.Plant.{Plant}
 use Rattle.grades.specs.declared.plant.States.{States}
+use Rattle.grades.specs.Batched.{how_many}
+use Rattle.grades.specs.Grades.{grade_number}
 use Rattle.grades.specs.Steps.{nodes_made}
+
+-- states by their numbers: a grade, and how many batches
+abbrev pub numbers_of : List (Term Grade Batches) → List (ℕ × ℕ)
+numbers_of = map (λ s. (grade_number s.performance, how_many s.weight))
+
+-- the plant that the program draws, and the grade that it asks for
+pub record GivenStates (p : States) : Type 0 where
+  pub first : numbers_of p.first ≡ (3, 2) ∷ (7, 8) ∷ []
+  pub second : numbers_of p.second ≡ (5, 6) ∷ (8, 4) ∷ []
+  pub finishing : numbers_of p.finishing ≡ (4, 1) ∷ (9, 9) ∷ []
+  pub asked : grade_number p.asked ≡ 7
 
 -- the two lines stand in parallel and the finishing step after them, each with its states, and nothing else was called
 pub record Stands (parts : States) (lent : ℕ) (store : List (Term Grade Batches)) (p : Plant) : Type 0 where
@@ -25,3 +40,17 @@ abbrev pub BothCollected : Table → List (Term Grade Batches) → ℕ → ℕ �
 BothCollected t s first second t' s' =
     (between : Table) × (left : List (Term Grade Batches)) × (m : ℕ) × (n : ℕ) ×
     Collected grades batches t s first (Ok m) between left × Collected grades batches between left second (Ok n) t' s'
+
+-- the first line has new states; a collecting of the whole is refused then, and after it the lines and the whole are collected
+pub record Retooled (p : Plant) (s : List (Term Grade Batches)) (p' : Plant) (s' : List (Term Grade Batches)) : Type 0 where
+  pub states : List (Term Grade Batches)
+  pub new : numbers_of states ≡ (6, 1) ∷ (9, 9) ∷ []
+  pub n : ℕ
+  pub stale : Table
+  pub left : List (Term Grade Batches)
+  pub restated : Restated grades batches (records p.diagram) s p.first states (Ok n) stale left
+  pub why : Refusal
+  pub as_stale : Table
+  pub kept : List (Term Grade Batches)
+  pub early : Collected grades batches stale left p.whole (Err why) as_stale kept
+  pub again : BothCollected as_stale kept p.lines p.whole (records p'.diagram) s'

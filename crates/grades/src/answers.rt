@@ -2,8 +2,7 @@
 ghost use Rattle.std.specs.Prelude.{◌≡◌, MatchResult, Ok, Err, Some, IfOk};
 ghost use Rattle.diagram.specs.Refusals.{number_of};
 ghost use Rattle.diagram.specs.Shown.{records};
-ghost use Rattle.diagram.specs.Store.{row_at};
-ghost use Rattle.grades.specs.Lines.{share_text, text_of_share};
+ghost use Rattle.grades.specs.Lines.{share_text, Answering};
 
 use crate::batches::Batches;
 use crate::grade::Grade;
@@ -39,6 +38,8 @@ struct Share {
 }
 
 impl Share {
+    ghost use Rattle.grades.specs.Lines.{ShareTold};
+
     // As node k of the diagram answers it.
     fn of(
         diagram: &Diagram<Grade, Batches>,
@@ -46,7 +47,7 @@ impl Share {
         k: usize,
         grade: Grade,
     ) -> Result<Share, Refusal>
-        ensures { IfOk result (λ s. share_text s.grade s.met s.all ≡ text_of_share grade (row_at (records diagram.now) store.now k)) }
+        ensures { ShareTold (records diagram.now) store.now k grade result }
     {
         let (met, all) = diagram.availability(store, k, grade)?;
         Ok(Share { grade, met, all })
@@ -71,7 +72,9 @@ pub(crate) fn show(
     store: &[State],
     k: usize,
     grade: Grade,
-) -> anyhow::Result<()> {
+) -> anyhow::Result<()>
+    ensures { IfOk result (λ _. Answering (records diagram.now) store.now k) }
+{
     let size = told(diagram.size(store, k))?;
     for i in 0..size {
         let state = told(diagram.term(store, k, i))?;

@@ -1,4 +1,7 @@
 // A plant read from a model file of this kind.
+ghost use Rattle.std.specs.Prelude.{◌≡◌, IfOk};
+ghost use Rattle.grades.specs.Files.{IsModelFile, AllCollected};
+
 use crate::answers::{show, told};
 use crate::batches::Batches;
 use crate::grade::Grade;
@@ -6,6 +9,7 @@ use crate::numbered::{grade, state};
 use crate::share::State;
 use anyhow::bail;
 use diagram::refusal::Refusal;
+use diagram::theorems::runs_are_right;
 use files::model::Model;
 use files::read::read;
 
@@ -45,7 +49,9 @@ pub(crate) fn by_file(rt: &HostRuntime) -> anyhow::Result<()> {
 }
 
 // Prints what the last node of the file tells.
-fn show_file(rt: &HostRuntime, bytes: &[u8]) -> anyhow::Result<()> {
+fn show_file(rt: &HostRuntime, bytes: &[u8]) -> anyhow::Result<()>
+    ensures { IfOk result (λ _. IsModelFile bytes.now) }
+{
     let mut store = [state(0, 0)?; 3200];
     let mut room = [state(0, 0)?; 255];
     let mut model = match read::<Grade, Batches>(bytes, &mut store, &mut room) {
@@ -58,11 +64,20 @@ fn show_file(rt: &HostRuntime, bytes: &[u8]) -> anyhow::Result<()> {
 }
 
 // Works out the joined nodes, by rising number.
-fn collect_all(model: &mut Model<Grade, Batches>, store: &mut [State]) -> anyhow::Result<()> {
+fn collect_all(model: &mut Model<Grade, Batches>, store: &mut [State]) -> anyhow::Result<()>
+    ensures collected { IfOk result (λ _. AllCollected model.old.nodes model.old.diagram store.old model.new.diagram store.new) }
+    ensures nodes { model.new.nodes ≡ model.old.nodes }
+    ensures demands { model.new.demands ≡ model.old.demands }
+{
+    runs_are_right::<Grade, Batches>();
     for k in 0..model.nodes {
         let answer = model.diagram.collect(store, usize::from(k));
-        if answer != Err(Refusal::NotJoined) {
-            told(answer)?;
+        match answer {
+            // A part has nothing to collect.
+            Err(Refusal::NotJoined) => {}
+            _ => {
+                told(answer)?;
+            }
         }
     }
     Ok(())

@@ -1,6 +1,7 @@
 // A plant drawn by calls: two lines in parallel, and then a finishing step.
-ghost use Rattle.std.specs.Prelude.{◌≡◌, length};
+ghost use Rattle.std.specs.Prelude.{◌≡◌, length, IfOk};
 ghost use Rattle.diagram.specs.Shown.{records};
+ghost use Rattle.grades.specs.Plants.{GivenStates, Stands, BothCollected, Retooled};
 
 use crate::answers::{refused, show, told};
 use crate::batches::Batches;
@@ -19,7 +20,9 @@ struct States {
     asked: Grade,
 }
 
-fn given() -> anyhow::Result<States> {
+fn given() -> anyhow::Result<States>
+    ensures { IfOk result GivenStates }
+{
     Ok(States {
         first: [state(3, 2)?, state(7, 8)?],
         second: [state(5, 6)?, state(8, 4)?],
@@ -38,9 +41,6 @@ struct Plant {
 }
 
 impl Plant {
-    ghost use Rattle.std.specs.Prelude.{IfOk};
-    ghost use Rattle.grades.specs.Plants.{Stands, BothCollected};
-
     fn draw(parts: &States, store: &mut [State]) -> Result<Plant, Refusal>
         ensures { IfOk result (Stands parts.now (length store.old) store.new) }
     {
@@ -103,7 +103,12 @@ fn new_tools(
     plant: &mut Plant,
     store: &mut [State],
     asked: Grade,
-) -> anyhow::Result<()> {
+) -> anyhow::Result<()>
+    ensures calls { IfOk result (λ _. Retooled plant.old store.old plant.new store.new) }
+    ensures first { plant.new.first ≡ plant.old.first }
+    ensures lines { plant.new.lines ≡ plant.old.lines }
+    ensures whole { plant.new.whole ≡ plant.old.whole }
+{
     let states = [state(6, 1)?, state(9, 9)?];
     told(plant.diagram.restate(store, plant.first, &states))?;
     rt.println("The first line gets new tools.")?;
