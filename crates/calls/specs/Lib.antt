@@ -1,2 +1,5 @@
 pub mod GradeLaws
 pub mod Grades
+pub mod Numbers
+pub mod Played
+pub mod Words

@@ -1,12 +1,17 @@
 // The numbers that stand after a call's name, and what they write.
-ghost use Rattle.std.specs.Prelude.{◌≡◌, IfOk};
+ghost use Rattle.std.specs.Prelude.{◌≡◌, IfOk, flat_map};
+ghost use Rattle.calls.specs.Numbers.{WritesNumbers};
+ghost use Rattle.calls.specs.Played.{state_numbers};
 
 use crate::written::Written;
 use anyhow::bail;
 use kinds::values::Parts;
 use terms::term::Term;
 
-pub(crate) fn numbers(rt: &HostRuntime, text: &str) -> anyhow::Result<Vec<u32>> {
+// The numbers that the words of a text write.
+pub(crate) fn numbers(rt: &HostRuntime, text: &str) -> anyhow::Result<Vec<u32>>
+    ensures { IfOk result (λ found. WritesNumbers text.now found.items) }
+{
     let mut found = Vec::new(rt.alloc());
     for word in text.split_whitespace() {
         let Ok(number) = word.parse::<u32>() else {
@@ -28,7 +33,10 @@ pub(crate) fn nodes(rt: &HostRuntime, numbers: &[u32]) -> anyhow::Result<Vec<usi
     Ok(found)
 }
 
-pub(crate) fn performance<P: Written>(high: u32, low: u32) -> anyhow::Result<P> {
+// The performance that two words write.
+pub(crate) fn performance<P: Written>(high: u32, low: u32) -> anyhow::Result<P>
+    ensures { IfOk result (λ v. P.words v ≡ (high, low)) }
+{
     let Some(performance) = P::of_words(high, low) else {
         bail!("the words {high} and {low} write no performance");
     };
@@ -39,7 +47,9 @@ pub(crate) fn performance<P: Written>(high: u32, low: u32) -> anyhow::Result<P> 
 pub(crate) fn states<P: Written>(
     rt: &HostRuntime,
     numbers: &[u32],
-) -> anyhow::Result<Vec<Term<P, Parts>>> {
+) -> anyhow::Result<Vec<Term<P, Parts>>>
+    ensures { IfOk result (λ found. flat_map (state_numbers P.Written) found.items ≡ numbers.now) }
+{
     let mut found = Vec::new(rt.alloc());
     for state in numbers.chunks(3) {
         let &[high, low, weight] = state else {

@@ -1,5 +1,6 @@
 // A sequence of calls, made on a diagram.
-ghost use Rattle.std.specs.Prelude.{◌≡◌, IfOk};
+ghost use Rattle.std.specs.Prelude.{◌≡◌, IfOk, string_bytes};
+ghost use Rattle.calls.specs.Played.{Told, term_told, both_told, Called, CalledAs, LinePlayed, Played};
 
 use crate::numbers;
 use crate::written::Written;
@@ -20,7 +21,9 @@ const SHORT: usize = 3199;
 fn told<T: fmt::Display + Drop>(
     rt: &HostRuntime,
     answer: Result<T, Refusal>,
-) -> anyhow::Result<String> {
+) -> anyhow::Result<String>
+    ensures { IfOk result (λ said. Told T.output answer (string_bytes said)) }
+{
     match answer {
         Ok(answer) => Ok(format!(in rt.alloc(); "{answer}")?),
         Err(refusal) => {
@@ -33,7 +36,9 @@ fn told<T: fmt::Display + Drop>(
 fn told_term<P: Written>(
     rt: &HostRuntime,
     answer: Result<Term<P, Parts>, Refusal>,
-) -> anyhow::Result<String> {
+) -> anyhow::Result<String>
+    ensures { IfOk result (λ said. string_bytes said ≡ term_told P.Written answer) }
+{
     match answer {
         Ok(
             Term {
@@ -48,7 +53,9 @@ fn told_term<P: Written>(
     }
 }
 
-fn told_both(rt: &HostRuntime, answer: Result<(Parts, Parts), Refusal>) -> anyhow::Result<String> {
+fn told_both(rt: &HostRuntime, answer: Result<(Parts, Parts), Refusal>) -> anyhow::Result<String>
+    ensures { IfOk result (λ said. string_bytes said ≡ both_told answer) }
+{
     match answer {
         Ok((met, all)) => Ok(format!(in rt.alloc(); "{met} {all}")?),
         Err(refusal) => told::<usize>(rt, Err(refusal)),
@@ -62,7 +69,9 @@ fn ask<P: Performance + Written>(
     store: &mut [Term<P, Parts>],
     name: &str,
     numbers: &[u32],
-) -> anyhow::Result<String> {
+) -> anyhow::Result<String>
+    ensures { IfOk result (λ said. Called P.Written P.Performance name.now numbers.now diagram.old store.old (string_bytes said) diagram.new store.new) }
+{
     match (name, numbers) {
         ("collect", &[k]) => told(rt, diagram.collect(store, k as usize)),
         ("size", &[k]) => told(rt, diagram.size(store, k as usize)),
@@ -82,7 +91,9 @@ fn call<P: Performance + Written>(
     diagram: &mut Diagram<P, Parts>,
     store: &mut [Term<P, Parts>],
     line: &str,
-) -> anyhow::Result<String> {
+) -> anyhow::Result<String>
+    ensures { IfOk result (λ said. CalledAs P.Written P.Performance line.now diagram.old store.old (string_bytes said) diagram.new store.new) }
+{
     let (name, rest) = line.split_once(' ').unwrap_or((line, ""));
     let numbers = numbers::numbers(rt, rest)?;
     match (name, numbers.as_slice()) {
@@ -126,7 +137,9 @@ fn play_line<P: Performance + Written>(
     diagram: &mut Diagram<P, Parts>,
     store: &mut [Term<P, Parts>],
     line: &str,
-) -> anyhow::Result<()> {
+) -> anyhow::Result<()>
+    ensures { IfOk result (λ _. LinePlayed P.Written P.Performance line.now diagram.old store.old diagram.new store.new) }
+{
     let Some((asked, wanted)) = line.split_once(" = ") else {
         bail!("no answer is wanted of: {line}");
     };
@@ -134,18 +147,17 @@ fn play_line<P: Performance + Written>(
         Some(asked) => (asked, SHORT),
         None => (asked, STORE),
     };
-    let Some((lent, _)) = store.split_at_mut_checked(len) else {
+    if store.len() < len {
         bail!("the store has fewer than {len} terms");
-    };
-    let said = call(rt, diagram, lent, asked)?;
+    }
+    let said = call(rt, diagram, &mut store[..len], asked)?;
     compare(asked, said.as_str(), wanted)
 }
 
 // Makes the calls, one a line, and answers how many; an error where one is answered other than it says.
-pub(crate) fn play<P: Performance + Written>(
-    rt: &HostRuntime,
-    calls: &str,
-) -> anyhow::Result<usize> {
+pub(crate) fn play<P: Performance + Written>(rt: &HostRuntime, calls: &str) -> anyhow::Result<usize>
+    ensures { IfOk result (λ made. Played P.Written P.Performance calls.now made) }
+{
     let blank = Term {
         performance: numbers::performance::<P>(0, 0)?,
         weight: Parts::new(0),
@@ -154,10 +166,8 @@ pub(crate) fn play<P: Performance + Written>(
     let Ok(mut diagram) = Diagram::new(&store) else {
         bail!("the store is too short");
     };
-    let mut made = 0usize;
     for line in calls.lines() {
         play_line(rt, &mut diagram, &mut store, line)?;
-        made = made.saturating_add(1);
     }
-    Ok(made)
+    Ok(calls.lines().count())
 }
