@@ -46,11 +46,11 @@ module _ {P : Type 0} (kind : Performance.Ghosts P) (laws : Kind kind) (promise 
         let new = (given (given (given (given (given said.0).1).1).1).1).1 in
         (ap number_in new, subst (λ z. From h s (joining way named) z d' s) new said.1)
 
-    after_collecting : (n : ℕ) → Collected kind parts_weight.ghosts (records d) s n (Ok k) (records d') s' → From h s (collecting n) (Ok (number k)) d' s'
+    pub after_collecting : (n : ℕ) → Collected kind parts_weight.ghosts (records d) s n (Ok k) (records d') s' → From h s (collecting n) (Ok (number k)) d' s'
     after_collecting n x = (answered kind parts_weight.ghosts promise d' (collecting n) s' (Ok (number k)) run (accepted x).0 (Ok k, x, refl)).1
 
     -- what was collected last has the row of its drawing
-    collected_row : (n : ℕ) → n < made h → Collected kind parts_weight.ghosts (records d) s n (Ok k) (records d') s' →
+    pub collected_row : (n : ℕ) → n < made h → Collected kind parts_weight.ghosts (records d) s n (Ok k) (records d') s' →
         RowOf kind parts_weight.ghosts (enumeration kind parts_weight.ghosts (states_of h) (drawing_of h n)) (row_at (records d') s' n)
     collected_row n is_node x =
         let now = answered_with (collecting n) (length s) k ∷ h in
@@ -70,6 +70,7 @@ module _ {P : Type 0} (kind : Performance.Ghosts P) (laws : Kind kind) (promise 
       pub is_pipe : c ≡ 2
       pub are_pumps : q ≡ 3
       pub is_plant : r ≡ 4
+      pub run : Left (answered_with (collecting 4) (length s4) n ∷ calls) d7 s5
       pub row : RowOf kind parts_weight.ghosts (enumeration kind parts_weight.ghosts (states_of calls) (drawing_of calls 4)) (row_at (records d7) s5 r)
 
     pub worked_out :
@@ -92,12 +93,14 @@ module _ {P : Type 0} (kind : Performance.Ghosts P) (laws : Kind kind) (promise 
         let in_series = subst (λ z. Joins kind parts_weight.ghosts (records d4) s3 (Joined Series) z (Ok r) (records d5)) (those four.0 three.0) join_r in
         let five = after_joining _ d4 d5 s3 s3 r four.1 Series plant in_series in
         let six = after_collecting _ d5 d6 s3 s4 m five.1 3 (subst (λ z. Collected kind parts_weight.ghosts (records d5) s3 z (Ok m) (records d6) s4) four.0 collect_q) in
-        let last = collected_row calls d6 d7 s4 s5 n six 4 (omega arith) (subst (λ z. Collected kind parts_weight.ghosts (records d6) s4 z (Ok n) (records d7) s5) five.0 collect_r) in
+        let whole = subst (λ z. Collected kind parts_weight.ghosts (records d6) s4 z (Ok n) (records d7) s5) five.0 collect_r in
+        let last = collected_row calls d6 d7 s4 s5 n six 4 (omega arith) whole in
         record {
           is_a = one.0;
           is_b = two.0;
           is_pipe = three.0;
           are_pumps = four.0;
           is_plant = five.0;
+          run = after_collecting _ d6 d7 s4 s5 n six 4 whole;
           row = subst (λ z. RowOf kind parts_weight.ghosts (enumeration kind parts_weight.ghosts (states_of calls) (drawing_of calls 4)) (row_at (records d7) s5 z)) (sym five.0) last;
         }

@@ -5,3 +5,4 @@ pub mod Needs
 pub mod Rows
 pub mod Texts
 pub mod Joining
+pub mod Overhauling

@@ -1,5 +1,5 @@
 -- What the plant answers by what flows through it.
-use Rattle.std.specs.Prelude.{List, Result}
+use Rattle.std.specs.Prelude.{List, [], ◌∷◌, Result}
 use Rattle.kinds.specs.Named.{Flow, Parts}
 use Rattle.kinds.specs.Words.{capped_word}
 use Rattle.kinds.specs.contracts.flow.FlowPerformance.TheImpl as flow_kind
@@ -13,7 +13,8 @@ use Rattle.worked.specs.declared.answers.Answers.{Answers}
 use Rattle.worked.specs.declared.plant.Drawn.{Drawn}
 use Rattle.worked.specs.declared.plant.Plant.{Plant}
 use Rattle.worked.specs.Answering.{AnswersOf}
-use Rattle.worked.specs.Plants.{RowOfDrawing, redrawn}
+use Rattle.worked.specs.Examples.{◌at◌}
+use Rattle.worked.specs.Plants.{RowOfDrawing, DrawnOf, drawn, redrawn}
 use Rattle.worked.specs.Two.{OfTwo}
 
 -- these are the row and the needs of this row
@@ -31,3 +32,12 @@ RedrawnAnswers p a = (row : List (Term Flow Parts)) × RowOfDrawing flow_kind.gh
 -- what of the pumps in parallel meets a need of 3
 abbrev pub PumpsAlone : Plant Flow → Result (Parts × Parts) Refusal → Type 0
 PumpsAlone p = OfTwo flow_kind.ghosts parts_weight.ghosts Parallel p.pump_a p.pump_b (capped_word 3) 3200
+
+-- pump A once it is overhauled: it stands still in 1 part of 10, and passes 5 in 9
+abbrev pub new_pump_a : List (Term Flow Parts)
+new_pump_a = 0 at 1 ∷ 5 at 9 ∷ []
+
+-- where the plant was drawn, its row is afterwards that of all the combinations of its parts, with the new pump A
+abbrev pub Overhauled : Drawn Flow → List (Term Flow Parts) → Drawn Flow → List (Term Flow Parts) → Type 0
+Overhauled d s d' s' =
+    (p : Plant Flow) → DrawnOf flow_kind.ghosts p d s → RowOfDrawing flow_kind.ghosts (record p { pump_a = new_pump_a }) drawn (row_at (records d'.diagram) s' d'.nodes.plant)

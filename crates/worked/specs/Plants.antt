@@ -1,5 +1,5 @@
 -- The plant as drawings, and what is worked out for it.
-use Rattle.std.specs.Prelude.{ℕ, List, Ok}
+use Rattle.std.specs.Prelude.{◌≡◌, ℕ, List, Ok}
 use Rattle.kinds.specs.Named.{Parts}
 use Rattle.kinds.specs.declared.performance.Performance
 use Rattle.kinds.specs.contracts.parts.PartsWeight.TheImpl as parts_weight
@@ -9,7 +9,12 @@ use Rattle.terms.specs.Rows.{RowOf}
 use Rattle.terms.specs.Drawings.{Drawing, part, joined, one, more}
 use Rattle.terms.specs.Enumeration.{but, enumeration}
 use Rattle.diagram.specs.declared.table.Table.{Table}
+use Rattle.diagram.specs.declared.diagram.Diagram.{Diagram}
 use Rattle.diagram.specs.Calls.{Collected}
+use Rattle.diagram.specs.Histories.{History, made, drawing_of, states_of}
+use Rattle.diagram.specs.Runs.{Run}
+use Rattle.diagram.specs.Shown.{records}
+use Rattle.worked.specs.declared.plant.Drawn.{Drawn}
 use Rattle.worked.specs.declared.plant.Nodes.{Nodes}
 use Rattle.worked.specs.declared.plant.Plant.{Plant}
 
@@ -36,8 +41,19 @@ module _ {P : Type 0} (kind : Performance.Ghosts P) where
   abbrev pub RowOfDrawing : Plant P → Drawing → List (Term P Parts) → Type 0
   RowOfDrawing p d = RowOf kind parts_weight.ghosts (enumeration kind parts_weight.ghosts (states p) d)
 
+  -- some calls have drawn the plant so, with these states, and left this of the diagram and of the store
+  pub record DrawnOf (p : Plant P) (d : Drawn P) (s : List (Term P Parts)) : Type 0 where
+    pub nodes : d.nodes ≡ in_order
+    pub calls : History P Parts
+    pub run : Run kind parts_weight.ghosts calls d.diagram s
+    pub five : made calls ≡ 5
+    pub drawing : drawing_of calls 4 ≡ drawn
+    pub pump_a : states_of calls 0 ≡ p.pump_a
+    pub pump_b : states_of calls 1 ≡ p.pump_b
+    pub pipe : states_of calls 2 ≡ p.pipe
+
   -- two nodes are collected, one after the other
   abbrev pub BothCollected : Table → List (Term P Parts) → ℕ → ℕ → Table → List (Term P Parts) → Type 0
   BothCollected t s first second t' s' =
-      (between : Table) × (left : List (Term P Parts)) × (m : ℕ) × (n : ℕ) ×
-      Collected kind parts_weight.ghosts t s first (Ok m) between left × Collected kind parts_weight.ghosts between left second (Ok n) t' s'
+      (between : Diagram P Parts) × (left : List (Term P Parts)) × (m : ℕ) × (n : ℕ) ×
+      Collected kind parts_weight.ghosts t s first (Ok m) (records between) left × Collected kind parts_weight.ghosts (records between) left second (Ok n) t' s'

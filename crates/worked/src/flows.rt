@@ -2,7 +2,7 @@
 ghost use Rattle.std.specs.Prelude.{◌≡◌, IfOk};
 ghost use Rattle.diagram.specs.Shown.{records};
 ghost use Rattle.worked.specs.Examples.{pump_a, pump_b, pipe};
-ghost use Rattle.worked.specs.Flows.{PlantAnswers, RedrawnAnswers, PumpsAlone};
+ghost use Rattle.worked.specs.Flows.{PlantAnswers, RedrawnAnswers, PumpsAlone, Overhauled};
 
 use crate::answers::{Answers, Row};
 use crate::lines::Line;
@@ -11,6 +11,7 @@ use crate::refusals::{refused, told};
 use crate::two::availability_of_two;
 use anyhow::ensure;
 use diagram::refusal::Refusal;
+use diagram::theorems::runs_are_right;
 use kinds::values::{Flow, Parts};
 use terms::term::{Term, Way};
 
@@ -96,8 +97,11 @@ fn compare(rt: &HostRuntime, first: &Answers, second: &Answers) -> anyhow::Resul
 
 // Pump A gets new states: the plant is stale until it is collected again.
 fn overhaul(rt: &HostRuntime, drawn: &mut Drawn<Flow>, store: &mut [State]) -> anyhow::Result<()>
-    ensures { drawn.new.nodes ≡ drawn.old.nodes }
+    ensures row { IfOk result (λ _. Overhauled drawn.old store.old drawn.new store.new) }
+    ensures nodes { drawn.new.nodes ≡ drawn.old.nodes }
 {
+    // What holds of every run of calls: this diagram was made elsewhere.
+    runs_are_right::<Flow, Parts>();
     let states = [state(0, 1), state(5, 9)];
     told(drawn.overhaul(store, &states), "restating pump A")?;
     rt.println("Pump A is overhauled:")?;

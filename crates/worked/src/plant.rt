@@ -61,10 +61,11 @@ impl<P: Performance> Plant<P> {
     ghost use Rattle.std.specs.Prelude.{IfOk};
     ghost use Rattle.diagram.specs.Shown.{records};
     ghost use Rattle.diagram.specs.Store.{row_at};
-    ghost use Rattle.worked.specs.Plants.{RowOfDrawing, drawn, redrawn, in_order};
+    ghost use Rattle.worked.specs.Plants.{RowOfDrawing, DrawnOf, drawn, redrawn, in_order};
 
     // Draws the plant and works it out: the pumps in parallel, then the pipe in series.
     pub fn draw(&self, store: &mut [Term<P, Parts>]) -> Result<Drawn<P>, Refusal>
+        ensures calls { IfOk result (λ d. DrawnOf P.Performance self.now d store.new) }
         ensures nodes { IfOk result (λ d. d.nodes ≡ in_order) }
         ensures row { IfOk result (λ d. RowOfDrawing P.Performance self.now drawn (row_at (records d.diagram) store.new d.nodes.plant)) }
     {

@@ -1,4 +1,4 @@
-use Rattle.std.proofs.Common.{[], ◌∷◌}
+use Rattle.std.proofs.Common.{[], ◌∷◌, refl}
 use Rattle.kinds.proofs.Lawful.{lawful_kind}
 use Rattle.worked.proofs.Drawing.{Worked, worked_out}
 use Rattle.worked.proofs.plant.Plant.draw.Given.{Over}
@@ -14,6 +14,20 @@ worked : (g : Over) (c : goal.In_ok-collect-2 g) → Worked g.P.Performance (law
 worked g c = worked_out g.P.Performance (lawful_kind g.met.P.Performance) c.in_ok-diagram.ensures.answers_right c.args.self.now _ _ _ _ _ _ _ _ _ _ _ _ _ _ _ _ _ _ _ _ _ _ _ _ _
     c.in_ok-diagram.ensures.made c.in_ok-pump_a.ensures c.in_ok-pump_b.ensures c.in_ok-pipe.ensures c.in_ok-pumps.ensures c.in_ok-plant.ensures
     c.in_ok-collect.ensures c.in_ok-collect-2.ensures (λ e f i. e i ∷ f i ∷ []) (λ e f i. e i ∷ f i ∷ [])
+
+pub returns-clause-calls : goal.returns-clause-calls
+returns-clause-calls g c =
+    let w = worked g c in
+    record {
+      nodes = λ i. record { pump_a = w.is_a i; pump_b = w.is_b i; pipe = w.is_pipe i; pumps = w.are_pumps i; plant = w.is_plant i };
+      calls = _;
+      run = w.run;
+      five = refl;
+      drawing = refl;
+      pump_a = refl;
+      pump_b = refl;
+      pipe = refl;
+    }
 
 pub returns-clause-nodes : goal.returns-clause-nodes
 returns-clause-nodes g c =
