@@ -3,3 +3,4 @@ pub mod Grades
 pub mod Numbers
 pub mod Played
 pub mod Words
+pub mod Sequences

@@ -2,9 +2,15 @@
 // after it. tools/other/sequences.py tells the form.
 #![tactic(auto)]
 
+ghost use Rattle.std.specs.Prelude.{◌≡◌, IfOk};
+ghost use Rattle.calls.specs.Played.{Played};
+ghost use Rattle.calls.specs.Sequences.{Sequence};
+
 use grade::Grade;
+use kinds::performance::Performance;
 use kinds::values::{Delay, FirstFault, Flow, OrOut};
 use std::io;
+use written::Written;
 
 mod grade;
 mod grades;
@@ -13,7 +19,9 @@ mod play;
 mod written;
 
 // One sequence: the name of its kind, and then a call a line. Answers how many calls.
-fn play_one(rt: &HostRuntime, sequence: &str) -> anyhow::Result<usize> {
+fn play_one(rt: &HostRuntime, sequence: &str) -> anyhow::Result<usize>
+    ensures { IfOk result (λ n. Sequence (λ calls. Played ⟦<Flow as Written>⟧ ⟦<Flow as Performance>⟧ calls n) (λ calls. Played ⟦<FirstFault as Written>⟧ ⟦<FirstFault as Performance>⟧ calls n) (λ calls. Played ⟦<OrOut<Delay> as Written>⟧ ⟦<OrOut<Delay> as Performance>⟧ calls n) (λ calls. Played ⟦<Grade as Written>⟧ ⟦<Grade as Performance>⟧ calls n) sequence.now (n ≡ 0)) }
+{
     let Some((kind, calls)) = sequence.split_once('\n') else {
         return Ok(0);
     };
