@@ -15,7 +15,7 @@ use Rattle.diagram.specs.Runs.{told, Performs}
 use Rattle.diagram.specs.Shown.{records}
 use Rattle.calls.specs.declared.written.Written
 use Rattle.calls.specs.Numbers.{WritesNumbers}
-use Rattle.calls.specs.Played.{Told, both_told, term_told, name_of, numbers_of, reply_text, NameFirst, Called, CalledAs}
+use Rattle.calls.specs.Played.{Told, both_told, term_told, name_of, numbers_of, reply_text, NameFirst, CallMade, CallMadeAs}
 
 -- what follows from what an Ok says
 pub after : {A E : Type 0} {p q : A → Type 0} (r : Result A E) → ((x : A) → p x → q x) → IfOk r p → IfOk r q
@@ -51,19 +51,19 @@ module _ {P : Type 0} (written : Written.Ghosts P) (kind : Performance.Ghosts P)
   -- a call that was performed, and told so
   pub called : {X E : Type 0} (name numbers : List ℕ) (d : Diagram P Parts) (s : Terms) (d' : Diagram P Parts) (s' : Terms) (call : Call P Parts) (reply : Reply P Parts)
       (r : Result X E) (text : X → List ℕ) → name ≡ name_of written call → numbers ≡ numbers_of written call → Performs kind parts call (records d) s reply (records d') s' →
-      IfOk r (λ x. text x ≡ reply_text written reply) → IfOk r (λ x. Called written kind name numbers d s (text x) d' s')
+      IfOk r (λ x. text x ≡ reply_text written reply) → IfOk r (λ x. CallMade written kind name numbers d s (text x) d' s')
   called name numbers d s d' s' call reply (Ok x) text is_name are_numbers performs h = (call, reply, is_name, are_numbers, h, performs)
   called name numbers d s d' s' call reply (Err e) text is_name are_numbers performs h = tt
 
   pub called_as : {X E : Type 0} (line rest : List ℕ) (d : Diagram P Parts) (s : Terms) (d' : Diagram P Parts) (s' : Terms) (call : Call P Parts) (reply : Reply P Parts)
       (r : Result X E) (text : X → List ℕ) → NameFirst line (name_of written call) rest → WritesNumbers rest (numbers_of written call) → Performs kind parts call (records d) s reply (records d') s' →
-      IfOk r (λ x. text x ≡ reply_text written reply) → IfOk r (λ x. CalledAs written kind line d s (text x) d' s')
+      IfOk r (λ x. text x ≡ reply_text written reply) → IfOk r (λ x. CallMadeAs written kind line d s (text x) d' s')
   called_as line rest d s d' s' call reply (Ok x) text first numbers performs h = (call, reply, (rest, first, numbers), h, performs)
   called_as line rest d s d' s' call reply (Err e) text first numbers performs h = tt
 
   -- what was called by name was called as the text asks
   pub asked_as : {X E : Type 0} (line name rest numbers : List ℕ) (d : Diagram P Parts) (s : Terms) (d' : Diagram P Parts) (s' : Terms) (r : Result X E) (text : X → List ℕ) →
-      NameFirst line name rest → WritesNumbers rest numbers → IfOk r (λ x. Called written kind name numbers d s (text x) d' s') → IfOk r (λ x. CalledAs written kind line d s (text x) d' s')
+      NameFirst line name rest → WritesNumbers rest numbers → IfOk r (λ x. CallMade written kind name numbers d s (text x) d' s') → IfOk r (λ x. CallMadeAs written kind line d s (text x) d' s')
   asked_as line name rest numbers d s d' s' (Ok x) text first are (call, reply, is_name, are_numbers, h, performs) =
       (call, reply, (rest, subst (λ z. NameFirst line z rest) is_name first, subst (WritesNumbers rest) are_numbers are), h, performs)
   asked_as line name rest numbers d s d' s' (Err e) text first are h = tt

@@ -16,7 +16,7 @@ use Rattle.diagram.specs.Histories.{Call, adding, joining, bridging, restating, 
 use Rattle.diagram.specs.Runs.{Performs, Run, start, next, lent_too_few}
 use Rattle.diagram.specs.Shown.{records}
 use Rattle.calls.specs.declared.written.Written
-use Rattle.calls.specs.Played.{AsksFor, CalledAs, LineSays, LinePlayed, LinesSay}
+use Rattle.calls.specs.Played.{AsksFor, CallMadeAs, LineSays, LinePlayed, LinesSay}
 
 -- what a line asks after `short`, with one term too few, or all that it asks
 abbrev pub Lent : List ℕ → List ℕ → ℕ → Type 0
@@ -42,7 +42,7 @@ module _ {P : Type 0} (written : Written.Ghosts P) (kind : Performance.Ghosts P)
 
   -- the call of a line is made, and told what the line wants
   pub line_played : {E : Type 0} (line asked wanted text said : List ℕ) (len : ℕ) (d d' : Diagram P Parts) (s left s' : Terms) (r : Result (Unit {0}) E) →
-      line ≡ asked ++ (codes " = " ++ wanted) → Lent asked text len → len ≤ length s → CalledAs written kind text d (take len s) said d' left →
+      line ≡ asked ++ (codes " = " ++ wanted) → Lent asked text len → len ≤ length s → CallMadeAs written kind text d (take len s) said d' left →
       length left ≡ len → s' ≡ left ++ drop len s → IfOk r (λ x. said ≡ wanted) → IfOk r (λ x. LinePlayed written kind line d s d' s')
   line_played line asked wanted text said len d d' s left s' (Err e) cut lent within called long whole wants = tt
   line_played line asked wanted text said len d d' s left s' (Ok x) cut lent within (call, reply, asks_for, tells, performs) long whole wants =

@@ -94,7 +94,7 @@ module _ {P : Type 0} (written : Written.Ghosts P) where
   -- each line an entry, the oldest first
   abbrev pub LinesSay : List (List ℕ) → List (Entry P Parts) → Type 0
   LinesSay [] [] = Unit {0}
-  LinesSay (line ∷ lines) (e ∷ entries) = LineSays line e × LinesSay lines entries
+  LinesSay (line ∷ others) (e ∷ entries) = LineSays line e × LinesSay others entries
   LinesSay _ _ = ⊥
 
   module _ (kind : Performance.Ghosts P) where
@@ -102,14 +102,14 @@ module _ {P : Type 0} (written : Written.Ghosts P) where
     Terms = List (Term P Parts)
 
     -- the diagram is called by this name, with these numbers, and told this text
-    abbrev pub Called : List ℕ → List ℕ → Diagram P Parts → Terms → List ℕ → Diagram P Parts → Terms → Type 0
-    Called name numbers d s said d' s' =
+    abbrev pub CallMade : List ℕ → List ℕ → Diagram P Parts → Terms → List ℕ → Diagram P Parts → Terms → Type 0
+    CallMade name numbers d s said d' s' =
         (call : Call P Parts) × (reply : Reply P Parts) × (name ≡ name_of call) × (numbers ≡ numbers_of call) × (said ≡ reply_text reply)
         × Performs kind parts call (records d) s reply (records d') s'
 
     -- the diagram is called as a text asks
-    abbrev pub CalledAs : List ℕ → Diagram P Parts → Terms → List ℕ → Diagram P Parts → Terms → Type 0
-    CalledAs text d s said d' s' =
+    abbrev pub CallMadeAs : List ℕ → Diagram P Parts → Terms → List ℕ → Diagram P Parts → Terms → Type 0
+    CallMadeAs text d s said d' s' =
         (call : Call P Parts) × (reply : Reply P Parts) × AsksFor text call × (said ≡ reply_text reply) × Performs kind parts call (records d) s reply (records d') s'
 
     -- the call of a line is made over the first terms of the store, and answered as the line says

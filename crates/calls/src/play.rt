@@ -1,6 +1,6 @@
 // A sequence of calls, made on a diagram.
 ghost use Rattle.std.specs.Prelude.{◌≡◌, IfOk, string_bytes};
-ghost use Rattle.calls.specs.Played.{Told, term_told, both_told, Called, CalledAs, LinePlayed, Played};
+ghost use Rattle.calls.specs.Played.{Told, term_told, both_told, CallMade, CallMadeAs, LinePlayed, Played};
 
 use crate::numbers;
 use crate::written::Written;
@@ -70,7 +70,7 @@ fn ask<P: Performance + Written>(
     name: &str,
     numbers: &[u32],
 ) -> anyhow::Result<String>
-    ensures { IfOk result (λ said. Called P.Written P.Performance name.now numbers.now diagram.old store.old (string_bytes said) diagram.new store.new) }
+    ensures { IfOk result (λ said. CallMade P.Written P.Performance name.now numbers.now diagram.old store.old (string_bytes said) diagram.new store.new) }
 {
     match (name, numbers) {
         ("collect", &[k]) => told(rt, diagram.collect(store, k as usize)),
@@ -92,7 +92,7 @@ fn call<P: Performance + Written>(
     store: &mut [Term<P, Parts>],
     line: &str,
 ) -> anyhow::Result<String>
-    ensures { IfOk result (λ said. CalledAs P.Written P.Performance line.now diagram.old store.old (string_bytes said) diagram.new store.new) }
+    ensures { IfOk result (λ said. CallMadeAs P.Written P.Performance line.now diagram.old store.old (string_bytes said) diagram.new store.new) }
 {
     let (name, rest) = line.split_once(' ').unwrap_or((line, ""));
     let numbers = numbers::numbers(rt, rest)?;

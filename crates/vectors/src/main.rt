@@ -1,6 +1,9 @@
 // Reads vectors from standard input, model files each with what is to be printed of it, and compares what `analyse` says.
 #![tactic(auto)]
 
+ghost use Rattle.std.specs.Prelude.{IfOk, string_bytes};
+ghost use Rattle.vectors.specs.Printed.{Prints};
+
 mod entries;
 
 use anyhow::bail;
@@ -19,7 +22,9 @@ struct Tally {
 const ROOM: usize = 3400;
 
 // What the program `analyse` prints of a model file.
-fn printed(rt: &HostRuntime, model: &[u8]) -> anyhow::Result<(bool, String)> {
+fn printed(rt: &HostRuntime, model: &[u8]) -> anyhow::Result<(bool, String)>
+    ensures { IfOk result (λ t. Prints model.now t.0 (string_bytes t.1)) }
+{
     let mut output = [0u8; ROOM];
     match analyse(model, &mut output) {
         Ok(len) => {
@@ -34,7 +39,9 @@ fn printed(rt: &HostRuntime, model: &[u8]) -> anyhow::Result<(bool, String)> {
 }
 
 // Compares one entry, and answers whether its file has a report.
-fn compare(rt: &HostRuntime, number: usize, entry: Entry<'_>) -> anyhow::Result<bool> {
+fn compare(rt: &HostRuntime, number: usize, entry: Entry<'_>) -> anyhow::Result<bool>
+    ensures { IfOk result (λ reported. Prints entry.entry.model.now reported entry.entry.printed.now) }
+{
     let (reported, said) = printed(rt, entry.model)?;
     let wanted = str::from_utf8(entry.printed)?;
     if said.as_str() != wanted {
