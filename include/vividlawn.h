@@ -34,7 +34,7 @@ extern "C" {
  * altogether. It allocates no memory, makes no system call, and keeps nothing from one call for the next: there is no state
  * behind it. So it may be called from several threads at once, each with an output of its own; one model may serve them all.
  *
- * It works on the stack: 72,536 bytes were the most that was measured (x86-64, tools/stack/run), nearly all of it one frame of a fixed
+ * It works on the stack: 72,280 bytes were the most that was measured (x86-64, tools/stack/run), nearly all of it one frame of a fixed
  * size. Let 128 KiB be free. A stack that is too small is not told as a fault: the process is killed.
  */
 int64_t vividlawn_analyse(const uint8_t *model, size_t model_len, uint8_t *output, size_t output_len);

@@ -28,16 +28,16 @@ delay_crossed a b c d e = word_same _ _ (cut_crossed _ (a.bits + e.bits) (b.bits
 
 infixl 60 ◌∩◌
 infixl 50 ◌∪◌
-abbrev ◌∩◌ : ℕ → ℕ → ℕ
+abbrev pub ◌∩◌ : ℕ → ℕ → ℕ
 a ∩ b = bit_and a b
 
-abbrev ◌∪◌ : ℕ → ℕ → ℕ
+abbrev pub ◌∪◌ : ℕ → ℕ → ℕ
 a ∪ b = bit_or a b
 
 union_swapped : (a b c : ℕ) → a ∪ b ∪ c ≡ a ∪ c ∪ b
 union_swapped a b c = or_assoc a b c ∙ ap (λ z. a ∪ z) (or_comm b c) ∙ sym (or_assoc a c b)
 
-union_spread : (c a b : ℕ) → c ∪ (a ∩ b) ≡ (c ∪ a) ∩ (c ∪ b)
+pub union_spread : (c a b : ℕ) → c ∪ (a ∩ b) ≡ (c ∪ a) ∩ (c ∪ b)
 union_spread =
     bin_ind (λ (n : ℕ). (a b : ℕ) → n ∪ (a ∩ b) ≡ (n ∪ a) ∩ (n ∪ b)) (λ a b. simp or_zero_l)
     (λ n ih a b. by_digits (simp (and_half, or_half) (ih (a / 2) (b / 2))) (simp (and_low, or_low) (omega arith)))

@@ -1,6 +1,8 @@
+pub mod Absent
 pub mod Crossing
 pub mod FlowLaws
 pub mod Lawful
 pub mod Members
 pub mod PartsLaws
+pub mod Reducing
 pub mod ScenariosLaws

@@ -21,7 +21,7 @@ module _ (top : ℕ) where
   pub min_is_top : (a b : ℕ) → a ≤ top → b ≤ top → min a b ≡ top → (a ≡ top) × (b ≡ top)
   min_is_top a b h k e = (omega arith, omega arith)
 
-  min_capped : (a b : ℕ) → min (capped top a) (capped top b) ≡ capped top (min a b)
+  pub min_capped : (a b : ℕ) → min (capped top a) (capped top b) ≡ capped top (min a b)
   min_capped a b = omega arith
 
   pub least_capped : (a b c d : ℕ) → least_of_four (capped top a) (capped top b) (capped top c) (capped top d) ≡ capped top (least_of_four a b c d)

@@ -7,6 +7,7 @@ pub mod Delays
 pub mod FaultSets
 pub mod FirstFaults
 pub mod Pairs
+pub mod OuterArms
 pub mod Outs
 pub mod Members
 pub mod Declares

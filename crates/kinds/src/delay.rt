@@ -1,5 +1,6 @@
 // Delay: a time. A series adds up, of parallel ways the faster counts; the largest number is never.
-ghost use Rattle.std.specs.Prelude.{false};
+ghost use Rattle.std.specs.Prelude.{false, IfSome};
+ghost use Rattle.kinds.specs.OuterArms.{IsAbsent};
 ghost use Rattle.kinds.specs.Delays.{delay_bridge, delay_meets};
 ghost use Rattle.kinds.specs.Words.{word_compared, smaller, word_sum};
 ghost use Rattle.kinds.specs.WordLaws.{compared_same, compared_itself, compared_swapped, compared_less, smaller_assoc, smaller_comm, sum_assoc, sum_comm};
@@ -70,5 +71,21 @@ impl Performance for Delay {
 
     fn slot(self) -> u8 {
         self.low_byte()
+    }
+
+    fn reduce(a: &mut Delay, b: &mut Delay, d: &mut Delay, e: &mut Delay) {
+        // As in `in_bridge`; of `with` no more than `without` counts, so it is cut there, and more choices are alike.
+        let without = a.capped_sum(*d).smaller(b.capped_sum(*e));
+        let with = a.capped_sum(*e).smaller(b.capped_sum(*d)).smaller(without);
+        *a = Delay::new(0);
+        *b = without;
+        *d = without;
+        *e = with;
+    }
+
+    fn absent() -> Option<Delay>
+        ensures { IfSome result (IsAbsent word_sum smaller delay_bridge) }
+    {
+        Some(Delay::new(TOP32))
     }
 }

@@ -1,9 +1,11 @@
 // Fault set: classes of faults. A series shows what either shows, parallel ways what both show.
-ghost use Rattle.std.specs.Prelude.{false};
+ghost use Rattle.std.specs.Prelude.{false, IfSome};
+ghost use Rattle.kinds.specs.OuterArms.{IsAbsent};
 ghost use Rattle.kinds.specs.FaultSets.{faults_bridge, faults_meets};
 ghost use Rattle.kinds.specs.Words.{word_compared, union, intersection};
 ghost use Rattle.kinds.specs.WordLaws.{compared_same, compared_itself, compared_swapped, compared_less, union_assoc, union_comm, intersection_assoc, intersection_comm};
 
+use crate::capped::TOP32;
 use crate::performance::Performance;
 use crate::values::FaultSet;
 use std::cmp::Ordering;
@@ -69,5 +71,21 @@ impl Performance for FaultSet {
 
     fn slot(self) -> u8 {
         self.low_byte()
+    }
+
+    fn reduce(a: &mut FaultSet, b: &mut FaultSet, d: &mut FaultSet, e: &mut FaultSet) {
+        // As in `in_bridge`; of `with` no more than `without` counts, so it is cut there, and more choices are alike.
+        let without = a.union(*d).intersection(b.union(*e));
+        let with = a.union(*e).intersection(b.union(*d)).intersection(without);
+        *a = FaultSet::new(0);
+        *b = without;
+        *d = without;
+        *e = with;
+    }
+
+    fn absent() -> Option<FaultSet>
+        ensures { IfSome result (IsAbsent union intersection faults_bridge) }
+    {
+        Some(FaultSet::new(TOP32))
     }
 }

@@ -85,4 +85,14 @@ impl Performance for FirstFault {
     fn slot(self) -> u8 {
         self.low_byte()
     }
+
+    fn reduce(a: &mut FirstFault, b: &mut FirstFault, d: &mut FirstFault, e: &mut FirstFault) {
+        // `without` comes first in `with` too: of two faults in parallel the first counts.
+        let without = a.in_series(*d).in_parallel(b.in_series(*e));
+        let with = without.in_parallel(a.in_series(*e).in_parallel(b.in_series(*d)));
+        *a = FirstFault::new(0);
+        *b = without;
+        *d = without;
+        *e = with;
+    }
 }

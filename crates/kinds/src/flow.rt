@@ -1,5 +1,6 @@
 // Flow: a rate. A series passes the smaller, parallel ways add up.
-ghost use Rattle.std.specs.Prelude.{false};
+ghost use Rattle.std.specs.Prelude.{false, IfSome};
+ghost use Rattle.kinds.specs.OuterArms.{IsAbsent};
 ghost use Rattle.kinds.specs.Flows.{flow_bridge, flow_meets};
 ghost use Rattle.kinds.specs.Words.{word_compared, smaller, word_sum};
 ghost use Rattle.kinds.specs.WordLaws.{compared_same, compared_itself, compared_swapped, compared_less, smaller_assoc, smaller_comm, sum_assoc, sum_comm};
@@ -69,5 +70,21 @@ impl Performance for Flow {
 
     fn slot(self) -> u8 {
         self.low_byte()
+    }
+
+    fn reduce(a: &mut Flow, b: &mut Flow, d: &mut Flow, e: &mut Flow) {
+        // The cuts without c, and what c adds to in the other two: cut at the first, past which nothing of it counts.
+        let without = a.capped_sum(*b).smaller(d.capped_sum(*e));
+        let with = a.capped_sum(*e).smaller(b.capped_sum(*d)).smaller(without);
+        *a = Flow::new(0);
+        *b = without;
+        *d = without;
+        *e = with;
+    }
+
+    fn absent() -> Option<Flow>
+        ensures { IfSome result (IsAbsent smaller word_sum flow_bridge) }
+    {
+        Some(Flow::new(0))
     }
 }

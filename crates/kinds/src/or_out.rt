@@ -1,10 +1,11 @@
 // A kind with one more value, out: no service at all.
-ghost use Rattle.std.specs.Prelude.{◌≡◌};
-ghost use Rattle.kinds.specs.Outs.{out_compared, out_series, out_parallel, out_bridge, out_meets, works};
+ghost use Rattle.std.specs.Prelude.{◌≡◌, IfSome};
+ghost use Rattle.kinds.specs.OuterArms.{outer_arms, SameAround, IsAbsent};
+ghost use Rattle.kinds.specs.Outs.{out_compared, out_series, out_parallel, out_bridge, out_meets, working_arms};
 ghost use Rattle.kinds.specs.Optional.{series_assoc, parallel_assoc, series_comm, parallel_comm};
 ghost use Rattle.std.proofs.Common.{rules};
 
-use crate::performance::Performance;
+use crate::performance::{OuterArms, Performance};
 use crate::values::OrOut;
 use std::cmp::Ordering;
 
@@ -69,33 +70,16 @@ impl<K: Performance> Performance for OrOut<K> {
     }
 
     fn in_bridge(a: Self, b: Self, c: Self, d: Self, e: Self) -> Self {
-        // One test of the arms that stay while c is gone through, which a compiler takes out of that loop, in place of four inside it.
-        if a.works() & b.works() & d.works() & e.works() {
-            if let (
-                OrOut::Working(a),
-                OrOut::Working(b),
-                OrOut::Working(c),
-                OrOut::Working(d),
-                OrOut::Working(e),
-            ) = (a, b, c, d, e)
-            {
-                return OrOut::Working(K::in_bridge(a, b, c, d, e));
-            }
+        // Little code where all outer arms work; they stay while c is gone through, and a compiler asks them before that loop.
+        if let (OrOut::Working(a), OrOut::Working(b), OrOut::Working(d), OrOut::Working(e)) = (
+            a, b, d, e,
+        ) {
+            return OrOut::Working(match c {
+                OrOut::Working(c) => K::in_bridge(a, b, c, d, e),
+                OrOut::Out => a.in_series(d).in_parallel(b.in_series(e)),
+            });
         }
-        match (a, b, c, d, e) {
-            (a, b, OrOut::Out, d, e) => a.in_series(d).in_parallel(b.in_series(e)),
-            (OrOut::Out, b, c, d, e) => b.in_series(e.in_parallel(c.in_series(d))),
-            (a, OrOut::Out, c, d, e) => a.in_series(d.in_parallel(c.in_series(e))),
-            (a, b, c, OrOut::Out, e) => a.in_series(c).in_parallel(b).in_series(e),
-            (a, b, c, d, OrOut::Out) => a.in_parallel(b.in_series(c)).in_series(d),
-            (
-                OrOut::Working(a),
-                OrOut::Working(b),
-                OrOut::Working(c),
-                OrOut::Working(d),
-                OrOut::Working(e),
-            ) => { OrOut::Working(K::in_bridge(a, b, c, d, e)) }
-        }
+        bridge_with_out(a, b, c, d, e)
     }
 
     fn satisfies(self, demand: Self) -> bool {
@@ -112,12 +96,104 @@ impl<K: Performance> Performance for OrOut<K> {
             OrOut::Working(v) => v.slot(),
         }
     }
+
+    fn reduce(a: &mut Self, b: &mut Self, d: &mut Self, e: &mut Self) {
+        if let Some(inner) = inner_arms(*a, *b, *d, *e) {
+            let OuterArms {
+                a: mut inner_a,
+                b: mut inner_b,
+                d: mut inner_d,
+                e: mut inner_e,
+            } = inner;
+            K::reduce(&mut inner_a, &mut inner_b, &mut inner_d, &mut inner_e);
+            *a = OrOut::Working(inner_a);
+            *b = OrOut::Working(inner_b);
+            *d = OrOut::Working(inner_d);
+            *e = OrOut::Working(inner_e);
+        }
+    }
+
+    fn absent() -> Option<Self>
+        ensures { IfSome result (IsAbsent (out_series K.Performance.series) (out_parallel K.Performance.parallel) (out_bridge K.Performance.series K.Performance.parallel K.Performance.bridge)) }
+    {
+        Some(OrOut::Out)
+    }
 }
 
-impl<K> OrOut<K> {
-    fn works(&self) -> bool
-        ensures { result ≡ works self.now }
-    {
-        matches!(self, OrOut::Working(_))
+// The table of docs/KINDS.md, line by line. Apart from `in_bridge`, and cold: it is rare, and within the loop over arm c its code would make
+// every bridge slower.
+#[cold]
+#[inline(never)]
+fn bridge_with_out<K: Performance>(
+    a: OrOut<K>,
+    b: OrOut<K>,
+    c: OrOut<K>,
+    d: OrOut<K>,
+    e: OrOut<K>,
+) -> OrOut<K>
+    ensures { result ≡ out_bridge K.series K.parallel K.bridge a b c d e }
+{
+    match (a, b, c, d, e) {
+        (a, b, OrOut::Out, d, e) => a.in_series(d).in_parallel(b.in_series(e)),
+        (OrOut::Out, b, c, d, e) => b.in_series(e.in_parallel(c.in_series(d))),
+        (a, OrOut::Out, c, d, e) => a.in_series(d.in_parallel(c.in_series(e))),
+        (a, b, c, OrOut::Out, e) => a.in_series(c).in_parallel(b).in_series(e),
+        (a, b, c, d, OrOut::Out) => a.in_parallel(b.in_series(c)).in_series(d),
+        (
+            OrOut::Working(a),
+            OrOut::Working(b),
+            OrOut::Working(c),
+            OrOut::Working(d),
+            OrOut::Working(e),
+        ) => OrOut::Working(K::in_bridge(a, b, c, d, e)),
+    }
+}
+
+// Outer arms that all work and do the same as these: one that is out is taken for one that is absent, if K tells of any.
+fn inner_arms<K: Performance>(
+    a: OrOut<K>,
+    b: OrOut<K>,
+    d: OrOut<K>,
+    e: OrOut<K>,
+) -> Option<OuterArms<K>>
+    ensures { IfSome result (λ inner. SameAround (out_series K.series) (out_parallel K.parallel) (out_bridge K.series K.parallel K.bridge) (outer_arms a b d e) (working_arms inner)) }
+{
+    match (a, b, d, e) {
+        (OrOut::Working(a), OrOut::Working(b), OrOut::Working(d), OrOut::Working(e)) => {
+            Some(OuterArms { a, b, d, e })
+        }
+        (OrOut::Out, OrOut::Working(b), OrOut::Working(d), OrOut::Working(e)) => {
+            Some(OuterArms {
+                a: K::absent()?,
+                b,
+                d,
+                e,
+            })
+        }
+        (OrOut::Working(a), OrOut::Out, OrOut::Working(d), OrOut::Working(e)) => {
+            Some(OuterArms {
+                a,
+                b: K::absent()?,
+                d,
+                e,
+            })
+        }
+        (OrOut::Working(a), OrOut::Working(b), OrOut::Out, OrOut::Working(e)) => {
+            Some(OuterArms {
+                a,
+                b,
+                d: K::absent()?,
+                e,
+            })
+        }
+        (OrOut::Working(a), OrOut::Working(b), OrOut::Working(d), OrOut::Out) => {
+            Some(OuterArms {
+                a,
+                b,
+                d,
+                e: K::absent()?,
+            })
+        }
+        _ => None,
     }
 }

@@ -1,5 +1,6 @@
 // The pair of two kinds: each side works by itself, and both must meet.
-ghost use Rattle.std.specs.Prelude.{◌||◌};
+ghost use Rattle.std.specs.Prelude.{◌≡◌, ◌||◌, IfSome};
+ghost use Rattle.kinds.specs.OuterArms.{IsAbsent};
 ghost use Rattle.kinds.specs.Pairs.{pair_compared, pair_joined, pair_bridge, pair_meets};
 ghost use Rattle.kinds.specs.Sides.{pair_less};
 ghost use Rattle.std.proofs.Common.{rules};
@@ -79,4 +80,21 @@ impl<A: Performance, B: Performance> Performance for Pair<A, B> {
     fn slot(self) -> u8 {
         self.first.slot().wrapping_mul(17) ^ self.second.slot()
     }
+
+    fn reduce(a: &mut Self, b: &mut Self, d: &mut Self, e: &mut Self) {
+        A::reduce(&mut a.first, &mut b.first, &mut d.first, &mut e.first);
+        B::reduce(&mut a.second, &mut b.second, &mut d.second, &mut e.second);
+    }
+
+    fn absent() -> Option<Self>
+        ensures { IfSome result (IsAbsent (pair_joined A.Performance.series B.Performance.series) (pair_joined A.Performance.parallel B.Performance.parallel) (pair_bridge A.Performance.bridge B.Performance.bridge)) }
+    {
+        Some(pair(A::absent()?, B::absent()?))
+    }
+}
+
+fn pair<A: Copy, B: Copy>(first: A, second: B) -> Pair<A, B>
+    ensures { result ≡ record { first = first; second = second } }
+{
+    Pair { first, second }
 }

@@ -1,11 +1,21 @@
 // What a kind of performance is: values, five operations on them, and the laws these keep.
-ghost use Rattle.std.specs.Prelude.{◌≡◌, Bool, false};
+ghost use Rattle.std.specs.Prelude.{◌≡◌, Bool, false, IfSome};
 ghost use Rattle.std.specs.declared.cmp.Ordering.TheVariants.{Less, Equal};
 ghost use Rattle.std.specs.declared.cmp.Ordering.{Ordering};
 ghost use Rattle.std.specs.Ordering.{ordering_reverse};
+ghost use Rattle.kinds.specs.OuterArms.{outer_arms, SameAround, IsAbsent};
 ghost use Rattle.kinds.specs.Paths.{by_paths};
 
 use std::cmp::Ordering;
+
+// The outer arms of a bridge, all but arm c.
+#[derive(Clone, Copy)]
+pub struct OuterArms<P> {
+    pub a: P,
+    pub b: P,
+    pub d: P,
+    pub e: P,
+}
 
 // The values of the kind are the values of the type. They are Copy: an operation refuses nothing and changes nothing.
 pub trait Performance: Copy {
@@ -51,6 +61,21 @@ pub trait Performance: Copy {
     // often those of one row are alike, the fewer searches there are.
     fn slot(self) -> u8 {
         0
+    }
+
+    // Changes the outer arms of a bridge to others that do the same around every arm c, and without one. Any such arms are right; the fewer
+    // forms they have, the less often a bridge goes through its arm c. Four borrows, and no struct of the arms: of that the toolchain does
+    // not give impls the clause yet.
+    fn reduce(a: &mut Self, b: &mut Self, d: &mut Self, e: &mut Self)
+        ensures { SameAround series parallel bridge (outer_arms a.old b.old d.old e.old) (outer_arms a.new b.new d.new e.new) }
+    {}
+
+    // A performance of which an arm does as if it were not there, if the kind tells one: a kind with out takes it for an outer arm that is
+    // out, so that fewer choices of outer arms go a way of their own.
+    fn absent() -> Option<Self>
+        ensures { IfSome result (IsAbsent series parallel bridge) }
+    {
+        None
     }
 
     // A bridge by its paths, for kinds that want it: a-d, b-e, a-c-e and b-c-d in series, joined in parallel in this order.

@@ -17,4 +17,5 @@ pub mod Listing
 pub mod Beneath
 pub mod Children
 pub mod Reordering
+pub mod Outer
 pub mod Pending

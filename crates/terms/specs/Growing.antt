@@ -1,5 +1,5 @@
 -- Cited by private functions only: what merging terms into a lent row does to it.
-use Rattle.std.specs.Prelude.{◌≡◌, ℕ, List, [], ◌∷◌, ◌++◌, take, Some, None, Option}
+use Rattle.std.specs.Prelude.{◌≡◌, ℕ, Bool, true, List, [], ◌∷◌, ◌++◌, take, Some, None, Option}
 use Rattle.std.specs.Borrow.{MutBor}
 use Rattle.std.specs.List.Sorted.{IsPartitionPoint}
 use Rattle.std.specs.declared.cmp.Ordering.TheVariants.{Less, Greater}
@@ -7,6 +7,7 @@ use Rattle.kinds.specs.declared.performance.Performance
 use Rattle.kinds.specs.declared.weight.Weight
 use Rattle.terms.specs.declared.term.Term.{Term}
 use Rattle.terms.specs.declared.row.Row.{Row}
+use Rattle.terms.specs.declared.row.Run.{Run}
 use Rattle.terms.specs.Rows.{SameDistribution, IsRow}
 use Rattle.terms.specs.Merging.{Merges}
 use Rattle.terms.specs.Combinations.{term}
@@ -57,3 +58,17 @@ module _ {P W : Type 0} (kind : Performance.Ghosts P) (weights : Weight.Ghosts W
   -- what a term whose weight is nothing gives, has no weight either
   abbrev pub GivesNothing : (Term P W → List (Term P W)) → Type 0
   GivesNothing gives = (x : Term P W) → x.weight ≡ weights.nothing → SameDistribution kind weights (gives x) []
+
+  module _ {K : Type 0} (key_post : P → K → Type 0) (same_post : K → K → Bool → Type 0) (step_post : MutBor (Row P W) → Run K W → Option (Unit {0}) → MutBor (Row P W) → Type 0) where
+    -- What three closures do for `wanted`, the terms that are wanted of a performance with some weight: its key gives the same, and a step merges
+    -- what its key gives. Two keys of which `same` says yes are equal. A sum of weights gives what both give, and of no weight nothing is wanted.
+    pub record Runs (wanted : P → W → List (Term P W)) (gives : K → W → List (Term P W)) : Type 0 where
+      pub keys : (p : P) (key : K) (v : W) → key_post p key → SameDistribution kind weights (gives key v) (wanted p v)
+      pub same : (key other : K) → same_post key other true → key ≡ other
+      pub steps : (row after : MutBor (Row P W)) (run : Run K W) (answer : Option (Unit {0})) → step_post row run answer after → Grows (gives run.key run.weight) row.now after.now answer
+      pub sums : (key : K) (u v : W) → SameDistribution kind weights (gives key (weights.sum u v)) (gives key u ++ gives key v)
+      pub nothing : (p : P) → SameDistribution kind weights (wanted p weights.nothing) []
+
+    -- the claim holds of whatever the calls of the three closures are known to do
+    abbrev pub OfRuns : ((P → W → List (Term P W)) → (K → W → List (Term P W)) → Type 0) → Type 0
+    OfRuns claim = (wanted : P → W → List (Term P W)) (gives : K → W → List (Term P W)) → Runs wanted gives → claim wanted gives

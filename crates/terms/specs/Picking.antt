@@ -1,6 +1,7 @@
 -- Cited by private functions only: the combinations of a bridge that are left once the first arms are picked, in the order a, b, d, e, c.
 use Rattle.std.specs.Prelude.{List, [], ◌∷◌}
 use Rattle.kinds.specs.declared.performance.Performance
+use Rattle.kinds.specs.declared.performance.OuterArms.{OuterArms}
 use Rattle.kinds.specs.declared.weight.Weight
 use Rattle.terms.specs.declared.term.Term.{Term}
 use Rattle.terms.specs.Combinations.{each}
@@ -11,11 +12,11 @@ module _ {P W : Type 0} (kind : Performance.Ghosts P) (weights : Weight.Ghosts W
   T = Term P W
 
   -- The arms before have their performances picked. The weight of the term picked last is the product of all the weights picked.
-  abbrev pub with_e : P → P → P → T → List T → List T
-  with_e a b d e cs = each cs λ c. mapped weights (λ p. kind.bridge a b p d e.performance) e.weight c ∷ []
+  abbrev pub with_outer : List T → OuterArms P → W → List T
+  with_outer cs outer v = each cs λ c. mapped weights (λ p. kind.bridge outer.a outer.b p outer.d outer.e) v c ∷ []
 
   abbrev pub with_d : P → P → T → List T → List T → List T
-  with_d a b d es cs = each es λ e. with_e a b d.performance (scaled weights d.weight e) cs
+  with_d a b d es cs = each es λ e. with_outer cs (record { a = a; b = b; d = d.performance; e = e.performance }) (weights.product d.weight e.weight)
 
   abbrev pub with_b : P → T → List T → List T → List T → List T
   with_b a b ds es cs = each ds λ d. with_d a b.performance (scaled weights b.weight d) es cs

@@ -1,10 +1,12 @@
 // The row of all the combinations of the five arms of a bridge.
+ghost use Rattle.std.specs.Prelude.{◌≡◌, ◌↔◌, IsTrue};
+ghost use Rattle.kinds.specs.OuterArms.{outer_arms, SameAround};
 ghost use Rattle.terms.specs.Merging.{Merges};
 ghost use Rattle.terms.specs.Combinations.{bridges};
 
-use crate::row::Row;
+use crate::row::{Row, Run, like};
 use crate::term::Term;
-use kinds::performance::Performance;
+use kinds::performance::{OuterArms, Performance};
 use kinds::weight::Weight;
 
 // The length of the row of the combinations of the arms a to e (five slices, so that the contract names each), which stands in the
@@ -41,7 +43,7 @@ struct Arms<'a, P, W> {
 
 impl<P: Performance, W: Weight> Arms<'_, P, W> {
     ghost use Rattle.terms.specs.Growing.{Grows};
-    ghost use Rattle.terms.specs.Picking.{with_a, with_b, with_d, with_e};
+    ghost use Rattle.terms.specs.Picking.{with_a, with_b, with_d, with_outer};
 
     // Arm a picked: every b with all of the arms after it.
     fn with_a(&self, a: Term<P, W>, row: &mut Row<P, W>) -> Option<()>
@@ -65,25 +67,41 @@ impl<P: Performance, W: Weight> Arms<'_, P, W> {
         )
     }
 
-    // Arms a, b and d picked: every e with all of c.
+    // Arms a, b and d picked: every e with all of c. Of outer arms that follow one another and do the same around arm c, c is gone through
+    // once. Not inlined: inlined into the loops over a, b and d, those over e and c would be left too few registers.
+    #[inline(never)]
     fn with_d(&self, a: P, b: P, d: Term<P, W>, row: &mut Row<P, W>) -> Option<()>
         ensures { Grows P.Performance W.Weight (with_d P.Performance W.Weight a b d self.now.e.now self.now.c.now) row.old row.new result }
     {
-        row.for_each_times(
+        row.for_each_run(
             d.weight,
             self.e,
-            |row, e| self.with_e(a, b, d.performance, e, row),
+            |e| reduced(a, b, d.performance, e),
+            |p, q| like_arms(p, q),
+            |row, run| self.with_outer(run, row),
         )
     }
 
     // All arms but c picked: every c.
-    fn with_e(&self, a: P, b: P, d: P, e: Term<P, W>, row: &mut Row<P, W>) -> Option<()>
-        ensures { Grows P.Performance W.Weight (with_e P.Performance W.Weight a b d e self.now.c.now) row.old row.new result }
+    fn with_outer(&self, outer: Run<OuterArms<P>, W>, row: &mut Row<P, W>) -> Option<()>
+        ensures { Grows P.Performance W.Weight (with_outer P.Performance W.Weight self.now.c.now outer.key outer.weight) row.old row.new result }
     {
-        row.put_each(
-            e.weight,
-            self.c,
-            |c| P::in_bridge(a, b, c, d, e.performance),
-        )
+        let OuterArms { a, b, d, e } = outer.key;
+        row.put_each(outer.weight, self.c, |c| P::in_bridge(a, b, c, d, e))
     }
+}
+
+// Outer arms, reduced as the kind does.
+fn reduced<P: Performance>(mut a: P, mut b: P, mut d: P, mut e: P) -> OuterArms<P>
+    ensures { SameAround P.series P.parallel P.bridge (outer_arms a b d e) result }
+{
+    P::reduce(&mut a, &mut b, &mut d, &mut e);
+    OuterArms { a, b, d, e }
+}
+
+// Whether two choices of outer arms are the same, by the kind's order: a kind need have no `==`.
+fn like_arms<P: Performance>(p: OuterArms<P>, q: OuterArms<P>) -> bool
+    ensures { IsTrue result ↔ (p ≡ q) }
+{
+    like(p.a, q.a) && like(p.b, q.b) && like(p.d, q.d) && like(p.e, q.e)
 }

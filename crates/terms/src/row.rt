@@ -1,5 +1,5 @@
 // A row that stands in lent memory, and what merges a term into it.
-ghost use Rattle.std.specs.Prelude.{◌≡◌, ◌≤◌, ◌%◌, length};
+ghost use Rattle.std.specs.Prelude.{◌≡◌, ◌≤◌, ◌%◌, ◌↔◌, IsTrue, length};
 ghost use Rattle.std.specs.List.Sorted.{IsBinarySearchResult, IsSearchInRange};
 ghost use Rattle.terms.specs.Combinations.{term};
 
@@ -17,11 +17,38 @@ pub(crate) struct Row<'a, P, W> {
     ghost fits: { filled.len ≤ length room.now },
 }
 
+// Terms with one key that follow one another: the key, and the sum of their weights.
+#[derive(Clone, Copy)]
+pub(crate) struct Run<K, W> {
+    pub(crate) key: K,
+    pub(crate) weight: W,
+}
+
+impl<K: Copy, W: Weight> Run<K, W> {
+    fn times(self, weight: W) -> Run<K, W>
+        ensures { result ≡ record self { weight = W.product weight self.weight } }
+    {
+        Run {
+            key: self.key,
+            weight: weight.times(self.weight),
+        }
+    }
+
+    fn term(self) -> Term<K, W>
+        ensures { result ≡ term self.key self.weight }
+    {
+        Term {
+            performance: self.key,
+            weight: self.weight,
+        }
+    }
+}
+
 // IsAlwaysCallable: the toolchain asks it of whoever calls a parameter.
 impl<'a, P: Performance, W: Weight> Row<'a, P, W> {
-    ghost use Rattle.std.specs.Prelude.{[], ◌∷◌};
+    ghost use Rattle.std.specs.Prelude.{[], ◌∷◌, ◌++◌};
     ghost use Rattle.terms.specs.Combinations.{each};
-    ghost use Rattle.terms.specs.Growing.{Grows, GrowsAt, OfStep, OfMap, GivesNothing, scaled, mapped};
+    ghost use Rattle.terms.specs.Growing.{Grows, GrowsAt, OfStep, OfMap, OfRuns, GivesNothing, scaled, mapped};
     ghost use Rattle.terms.specs.Merging.{Merges};
 
     // The row of what a step for each of `xs` adds, in the first places of `room`; None where it is longer than the room.
@@ -90,8 +117,7 @@ impl<'a, P: Performance, W: Weight> Row<'a, P, W> {
         )
     }
 
-    // Adds a term for each of `xs`: `f` of its performance, with its weight times `weight`. Like ones that follow one another are held back
-    // and added once, since weights of likes add up; if `weight` is nothing, there is nothing to add.
+    // Adds a term for each of `xs`: `f` of its performance, with its weight times `weight`.
     pub(crate) fn put_each<F: Fn(P) -> P>(
         &mut self,
         weight: W,
@@ -101,43 +127,74 @@ impl<'a, P: Performance, W: Weight> Row<'a, P, W> {
         requires { F.IsAlwaysCallable f }
         ensures { OfMap (F.post f) (λ g. Grows P.Performance W.Weight (each xs.now (λ x. mapped W.Weight g weight x ∷ [])) self.old self.new result) }
     {
+        self.for_each_run(
+            weight,
+            xs,
+            f,
+            |p, q| like(p, q),
+            |row, run| row.put(run.term()),
+        )
+    }
+
+    // Takes a step for the key of each of `xs`, with its weight times `weight`: one for each run of like keys, since weights of likes add up.
+    // If `weight` is nothing, there is nothing to add.
+    pub(crate) fn for_each_run<
+        K: Copy,
+        F: Fn(P) -> K,
+        S: Fn(K, K) -> bool,
+        T: Fn(&mut Row<P, W>, Run<K, W>) -> Option<()>,
+    >(&mut self, weight: W, xs: &[Term<P, W>], key: F, same: S, step: T) -> Option<()>
+        requires key { F.IsAlwaysCallable key }
+        requires same { S.IsAlwaysCallable same }
+        requires step { T.IsAlwaysCallable step }
+        ensures { OfRuns P.Performance W.Weight (F.post key) (S.post same) (T.post step) (λ wanted gives. Grows P.Performance W.Weight (each xs.now (λ x. wanted x.performance (W.product weight x.weight))) self.old self.new result) }
+    {
         if weight.is_nothing() {
             return Some(());
         }
         let Some((first, rest)) = xs.split_first() else {
             return Some(());
         };
-        let held = Term {
-            performance: f(first.performance),
+        let run = Run {
+            key: key(first.performance),
             weight: first.weight,
         };
-        self.put_rest(weight, held, rest, f)
+        self.run_on(weight, run, rest, key, same, step)
     }
 
-    // The same, after `held`, which is held back.
-    fn put_rest<F: Fn(P) -> P>(
+    // The rest of them: `run` is held back until another key comes, or the end, and then a step is taken for it.
+    fn run_on<
+        K: Copy,
+        F: Fn(P) -> K,
+        S: Fn(K, K) -> bool,
+        T: Fn(&mut Row<P, W>, Run<K, W>) -> Option<()>,
+    >(
         &mut self,
         weight: W,
-        mut held: Term<P, W>,
+        mut run: Run<K, W>,
         rest: &[Term<P, W>],
-        f: F,
+        key: F,
+        same: S,
+        step: T,
     ) -> Option<()>
-        requires { F.IsAlwaysCallable f }
-        ensures { OfMap (F.post f) (λ g. Grows P.Performance W.Weight (scaled W.Weight weight held ∷ each rest.now (λ x. mapped W.Weight g weight x ∷ [])) self.old self.new result) }
+        requires key { F.IsAlwaysCallable key }
+        requires same { S.IsAlwaysCallable same }
+        requires step { T.IsAlwaysCallable step }
+        ensures { OfRuns P.Performance W.Weight (F.post key) (S.post same) (T.post step) (λ wanted gives. Grows P.Performance W.Weight (gives run.key (W.product weight run.weight) ++ each rest.now (λ x. wanted x.performance (W.product weight x.weight))) self.old self.new result) }
     {
         for x in rest {
-            let performance = f(x.performance);
-            if performance.order(held.performance).is_eq() {
-                held = grown(held, x.weight);
+            let next = key(x.performance);
+            if same(next, run.key) {
+                run.weight = run.weight.plus(x.weight);
             } else {
-                self.put(scaled(weight, held))?;
-                held = Term {
-                    performance,
+                step(self, run.times(weight))?;
+                run = Run {
+                    key: next,
                     weight: x.weight,
                 };
             }
         }
-        self.put(scaled(weight, held))
+        step(self, run.times(weight))
     }
 
     // Adds one term: to the one of its performance if the row has it, or else at the place where that would stand.
@@ -158,8 +215,8 @@ impl<'a, P: Performance, W: Weight> Row<'a, P, W> {
         }
     }
 
-    // Puts a term in at the place `at`, between the lesser and the greater ones; the greater ones move up. Called once for each
-    // place of a row at most, so that it had better not lie within the loops.
+    // Puts a term in at the place `at`, between the lesser and the greater ones; the greater ones move up. That happens once for each place
+    // of a row at most, so that it had better not lie within the loops.
     #[cold]
     #[inline(never)]
     fn insert(&mut self, at: usize, t: Term<P, W>) -> Option<()>
@@ -178,6 +235,13 @@ impl<'a, P: Performance, W: Weight> Row<'a, P, W> {
         self.filled.len += 1;
         Some(())
     }
+}
+
+// Whether two performances are the same.
+pub(crate) fn like<P: Performance>(p: P, q: P) -> bool
+    ensures { IsTrue result ↔ (p ≡ q) }
+{
+    p.order(q).is_eq()
 }
 
 // A place as a hint: one past 255 is none.

@@ -1,22 +1,20 @@
-use Rattle.std.proofs.Common.{[], ◌∷◌, sym, refl, subst}
-use Rattle.terms.specs.Combinations.{each, term}
-use Rattle.terms.specs.Growing.{Grows, mapped}
+use Rattle.std.proofs.Common.{rules, refl, [], ◌∷◌, ap, ◌∙◌}
 use Rattle.kinds.proofs.Lawful.{lawful_kind, lawful_weight}
-use Rattle.terms.proofs.Voiding.{void_mapped, void_adds}
+use Rattle.terms.specs.Combinations.{term}
+use Rattle.terms.specs.Rows.{share}
+use Rattle.terms.proofs.Canonical.{share_additive}
+use Rattle.terms.proofs.Voiding.{void_one}
 use Rattle.terms.proofs.row.Row.put_each.Goals as goal
-
-pub returns-then-is_nothing : goal.returns-then-is_nothing
-returns-then-is_nothing g c = λ f maps. record {
-  same_room = refl;
-  merged = λ row.
-      let k = lawful_kind g.met.P.Performance in
-      let w = lawful_weight g.met.W.Weight in
-      (c.args.self.now.fits, void_adds k w _ _ (void_mapped k w c.args.xs.now f c.args.weight (w.only_nothing c.args.weight (sym c.if-is_nothing.ensures))) row);
-}
 
 pub returns : goal.returns
 returns g c = λ f maps.
-    rw c.in-Some.ensures.cases.0 (
-    subst (λ z. Grows g.P.Performance g.W.Weight (term z (g.W.Weight.product c.args.weight c.in-Some.first.now.weight) ∷ each c.in-Some.rest.now λ x. mapped g.W.Weight f c.args.weight x ∷ []) c.args.self.now c.put_rest.new.self c.put_rest.result)
-    (maps _ _ c.f.ensures)
-    (c.put_rest.ensures f maps))
+    let k = lawful_kind g.met.P.Performance in
+    let w = lawful_weight g.met.W.Weight in
+    let v = g.W.Weight in
+    c.for_each_run.ensures (λ p u. term (f p) u ∷ []) (λ q u. term q u ∷ []) record {
+      keys = λ p q u made r. ap (λ z. v.sum (share g.P.Performance v r (term z u)) v.nothing) (maps p q made);
+      same = search rules;
+      steps = search rules;
+      sums = λ q s t r. ap (λ z. v.sum z v.nothing) ((share_additive k w r).more q s t) ∙ w.sum_assoc _ _ v.nothing;
+      nothing = λ p. void_one k w (term (f p) v.nothing) refl;
+    }

@@ -1,0 +1,10 @@
+use Rattle.std.proofs.Common.{refl}
+use Rattle.kinds.specs.OuterArms.{outer_arms}
+use Rattle.kinds.specs.Words.{zero_word}
+use Rattle.kinds.proofs.Reducing.{faults_reduced}
+use Rattle.kinds.proofs.fault_set.FaultSetPerformance.reduce.Goals as goal
+
+pub returns : goal.returns
+returns c =
+    rw (c.new.ensures.only zero_word refl, c.intersection-with.ensures, c.intersection.ensures, c.intersection-without.ensures, c.union.ensures, c.union-2.ensures, c.union-3.ensures, c.union-4.ensures)
+    (faults_reduced (outer_arms c.args.a.now c.args.b.now c.args.d.now c.args.e.now))
