@@ -55,12 +55,6 @@ module _ {P : Type 0} (written : Written.Ghosts P) (kind : Performance.Ghosts P)
   called name numbers d s d' s' call reply (Ok x) text is_name are_numbers performs h = (call, reply, is_name, are_numbers, h, performs)
   called name numbers d s d' s' call reply (Err e) text is_name are_numbers performs h = tt
 
-  pub called_as : {X E : Type 0} (line rest : List ℕ) (d : Diagram P Parts) (s : Terms) (d' : Diagram P Parts) (s' : Terms) (call : Call P Parts) (reply : Reply P Parts)
-      (r : Result X E) (text : X → List ℕ) → NameFirst line (name_of written call) rest → WritesNumbers rest (numbers_of written call) → Performs kind parts call (records d) s reply (records d') s' →
-      IfOk r (λ x. text x ≡ reply_text written reply) → IfOk r (λ x. CallMadeAs written kind line d s (text x) d' s')
-  called_as line rest d s d' s' call reply (Ok x) text first numbers performs h = (call, reply, (rest, first, numbers), h, performs)
-  called_as line rest d s d' s' call reply (Err e) text first numbers performs h = tt
-
   -- what was called by name was called as the text asks
   pub asked_as : {X E : Type 0} (line name rest numbers : List ℕ) (d : Diagram P Parts) (s : Terms) (d' : Diagram P Parts) (s' : Terms) (r : Result X E) (text : X → List ℕ) →
       NameFirst line name rest → WritesNumbers rest numbers → IfOk r (λ x. CallMade written kind name numbers d s (text x) d' s') → IfOk r (λ x. CallMadeAs written kind line d s (text x) d' s')

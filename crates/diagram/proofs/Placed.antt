@@ -121,15 +121,6 @@ module _ {t : Table} (s : Sound t) where
     pub beneath_within : (k n : ℕ) → k < t.count → Beneath n (drawing k) → (n < t.count) × (form_at t n ≡ Part) × Within t n k
     beneath_within k n h b = beneath_within_up_to (suc k) k n (omega arith) h b
 
-    -- the parts in the drawing of a node that is no part were made before it
-    pub not_itself : (k n : ℕ) → k < t.count → form_at t k ≢ Part → Beneath n (drawing k) → n < k
-    not_itself k n h other b =
-        let w = beneath_within k n h b in
-        elim w.2 [
-          | inl e ↦ absurd (other (subst (λ z. form_at t z ≡ Part) e w.1))
-          | inr a ↦ above_is_higher w.0 a
-        ]
-
     none_twice_up_to : (bound k : ℕ) → k < bound → k < t.count → NoPartTwice (drawing k)
     none_twice_up_to zero k l h = absurd (omega (arith, l))
     none_twice_up_to (suc bound) k l h = elim (part_or_not (form_at t k)) [

@@ -14,7 +14,7 @@ use files::model::Model;
 use files::read::read;
 
 // The file, from the number of its records on: 300 batches of grade 3 and 200 of grade 8 in parallel with 100 of grade 6, then
-// a step that makes 2 of grade 7, and the demand 7. A state is the word 0, the word of its grade, and eight bytes of batches.
+// a step that makes 2 of grade 7, and grade 7 is asked for. A state is the word 0, the word of its grade, and eight bytes of batches.
 #[rattlefmt::skip]
 const FILE: [u8; 89] = [
     6,

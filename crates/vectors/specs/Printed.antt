@@ -1,4 +1,5 @@
--- What the program `analyse` prints of a model file.
+-- What a model file comes to, as text: its report, or the line of its fault. (The program `analyse` says the same of what it writes; a program
+-- shows no definitions to another.)
 use Rattle.std.specs.Prelude.{◌≡◌, ℕ, Bool, true, false, List, [], ◌∷◌, ◌++◌, length, take, Result, Ok, Err}
 use Rattle.files.specs.declared.fault.Fault.{Fault}
 use Rattle.files.specs.Faults.{fault_text}

@@ -21,7 +21,7 @@ struct Tally {
 // Longer than the longest report.
 const ROOM: usize = 3400;
 
-// What the program `analyse` prints of a model file.
+// What a model file comes to, as text: its report, or the line of its fault.
 fn printed(rt: &HostRuntime, model: &[u8]) -> anyhow::Result<(bool, String)>
     ensures { IfOk result (λ t. Prints model.now t.0 (string_bytes t.1)) }
 {
