@@ -1,9 +1,10 @@
-/* The job of the engine as fast as we could make it in C: the same call, with no faults told.
+/* The job of the engine as fast as we could make it in C (on bridges with HOLD_OUTER, but for fault sets): the same call, with no faults told.
 
    A performance is a whole number here, a key, whose order is that of the kind. Every model has loops of its own. In a bridge, what arms a, b, d
    and e settle is worked out before arm c is gone through. Like performances that follow one another are held back: their weights are
    summed up first, and then multiplied once, since products distribute over sums. Sums of parts are capped only at the end. A
-   performance is looked up by its low bits in a table of 256 places, and what is found is sorted at the end. */
+   performance is looked up by its low bits in a table of 256 places, and what is found is sorted at the end. With HOLD_OUTER choices of a, b, d and
+   e that settle the same and follow one another are held back as well, and arm c is gone through once for them. */
 #include <string.h>
 
 #include "format.h"
@@ -25,17 +26,31 @@ static inline u64 min(u64 a, u64 b) { return a < b ? a : b; }
 #define Scenarios_SUM(a, b) ((a) | (b))
 #define Effort_SUM(a, b) min(a, b)
 
-/* In every numeric kind the bridge is, for arms a, b, d and e that are picked, the smaller of `most` and c + `more`. */
+/* What outer arms, a, b, d and e, settle. In every numeric kind the bridge is the smaller of `most` and c + `more`, of which no more than
+   `most` counts. */
 typedef struct { u64 most, more; } Line;
+typedef struct { u32 most, more; } BitLine;
+typedef struct { u32 fault, whatever; } FaultLine;
+typedef struct { Line high, low; } PairLine;
 
-static inline Line flow_line(u64 a, u64 b, u64 d, u64 e) { return (Line){min(min(a + b, d + e), TOP), min(a + e, b + d)}; }
-static inline Line delay_line(u64 a, u64 b, u64 d, u64 e) { return (Line){min(min(a + d, b + e), TOP), min(a + e, b + d)}; }
+static inline Line line(u64 most, u64 more) { return (Line){most, min(more, most)}; }
+
+static inline Line flow_line(u64 a, u64 b, u64 d, u64 e) { return line(min(min(a + b, d + e), TOP), min(a + e, b + d)); }
+static inline Line delay_line(u64 a, u64 b, u64 d, u64 e) { return line(min(min(a + d, b + e), TOP), min(a + e, b + d)); }
+static inline BitLine bit_line(u32 a, u32 b, u32 d, u32 e) {
+  u32 most = (a | d) & (b | e);
+  return (BitLine){most, (a | e) & (b | d) & most};
+}
+static inline FaultLine fault_line(u32 a, u32 b, u32 d, u32 e) {
+  u32 fault = b | e ? (a ? a : d) : 0;
+  return (FaultLine){fault, fault && (a | e) && (b | d)};
+}
 
 /* With out: the same for a c that works, in keys; and the key for a c that is out. Where arm c does not matter, `more` is as large as can be. */
 typedef struct { u64 most, more, out; } OutLine;
 
 static inline OutLine always(u64 key, u64 out) { return (OutLine){key, TOP + 1ull, out}; }
-static inline OutLine below(u64 most, u64 more, u64 out) { return (OutLine){min(most, TOP) + 1, more, out}; }
+static inline OutLine below(u64 most, u64 more, u64 out) { return (OutLine){min(most, TOP) + 1, min(more, min(most, TOP)), out}; }
 static inline u64 working(u64 number) { return min(number, TOP) + 1; }
 
 static inline OutLine flow_out_line(u64 ka, u64 kb, u64 kd, u64 ke) {
@@ -73,7 +88,8 @@ static inline OutLine delay_out_line(u64 ka, u64 kb, u64 kd, u64 ke) {
 #define KEYS word
 #define SERIES(x, y) least(x, y)
 #define PARALLEL(x, y) cap((u64)(x) + (y))
-#define SETTLED(a, b, d, e) Line line = flow_line(a, b, d, e)
+#define SETTLED Line
+#define SETTLE flow_line
 #define BRIDGE(c) (u32)min(line.most, c + line.more)
 #include "best_model.h"
 
@@ -83,7 +99,8 @@ static inline OutLine delay_out_line(u64 ka, u64 kb, u64 kd, u64 ke) {
 #define KEYS word
 #define SERIES(x, y) cap((u64)(x) + (y))
 #define PARALLEL(x, y) least(x, y)
-#define SETTLED(a, b, d, e) Line line = delay_line(a, b, d, e)
+#define SETTLED Line
+#define SETTLE delay_line
 #define BRIDGE(c) (u32)min(line.most, c + line.more)
 #include "best_model.h"
 
@@ -93,8 +110,9 @@ static inline OutLine delay_out_line(u64 ka, u64 kb, u64 kd, u64 ke) {
 #define KEYS word
 #define SERIES(x, y) ((x) | (y))
 #define PARALLEL(x, y) ((x) & (y))
-#define SETTLED(a, b, d, e) u32 most = (a | d) & (b | e), more = (a | e) & (b | d)
-#define BRIDGE(c) (most & (c | more))
+#define SETTLED BitLine
+#define SETTLE bit_line
+#define BRIDGE(c) (line.most & (c | line.more))
 #include "best_model.h"
 
 #define KIND FirstFault
@@ -103,21 +121,27 @@ static inline OutLine delay_out_line(u64 ka, u64 kb, u64 kd, u64 ke) {
 #define KEYS word
 #define SERIES(x, y) ((x) ? (x) : (y))
 #define PARALLEL(x, y) ((x) && (y) ? (x) : 0)
-#define SETTLED(a, b, d, e) u32 fault = (b | e) ? (a ? a : d) : 0, whatever = (a | e) && (b | d)
-#define BRIDGE(c) ((c | whatever) ? fault : 0)
+#define SETTLED FaultLine
+#define SETTLE fault_line
+#define BRIDGE(c) ((c | line.whatever) ? line.fault : 0)
 #include "best_model.h"
+
+#define HIGH(x) ((x) >> 32)
+#define LOW(x) ((x) & TOP)
+#define BOTH(x, y) ((u64)(x) << 32 | (y))
+static inline PairLine pair_line(u64 a, u64 b, u64 d, u64 e) {
+  return (PairLine){delay_line(HIGH(a), HIGH(b), HIGH(d), HIGH(e)), flow_line(LOW(a), LOW(b), LOW(d), LOW(e))};
+}
 
 #define KIND Pair
 #define WEIGHT Effort
 #define KEY u64
 #define KEYS pair
-#define HIGH(x) ((x) >> 32)
-#define LOW(x) ((x) & TOP)
-#define BOTH(x, y) ((u64)(x) << 32 | (y))
 #define SERIES(x, y) BOTH(min(HIGH(x) + HIGH(y), TOP), min(LOW(x), LOW(y)))
 #define PARALLEL(x, y) BOTH(min(HIGH(x), HIGH(y)), min(LOW(x) + LOW(y), TOP))
-#define SETTLED(a, b, d, e) Line high = delay_line(HIGH(a), HIGH(b), HIGH(d), HIGH(e)), low = flow_line(LOW(a), LOW(b), LOW(d), LOW(e))
-#define BRIDGE(c) BOTH(min(high.most, HIGH(c) + high.more), min(low.most, LOW(c) + low.more))
+#define SETTLED PairLine
+#define SETTLE pair_line
+#define BRIDGE(c) BOTH(min(line.high.most, HIGH(c) + line.high.more), min(line.low.most, LOW(c) + line.low.more))
 #include "best_model.h"
 
 #define KIND FlowOrOut
@@ -126,7 +150,8 @@ static inline OutLine delay_out_line(u64 ka, u64 kb, u64 kd, u64 ke) {
 #define KEYS out
 #define SERIES(x, y) min(x, y)
 #define PARALLEL(x, y) (!(x) ? (y) : !(y) ? (x) : working((x) + (y) - 2))
-#define SETTLED(a, b, d, e) OutLine line = flow_out_line(a, b, d, e)
+#define SETTLED OutLine
+#define SETTLE flow_out_line
 #define BRIDGE(c) (c ? min(line.most, c + line.more) : line.out)
 #include "best_model.h"
 
@@ -136,7 +161,8 @@ static inline OutLine delay_out_line(u64 ka, u64 kb, u64 kd, u64 ke) {
 #define KEYS out
 #define SERIES(x, y) ((x) && (y) ? working((x) + (y) - 2) : 0)
 #define PARALLEL(x, y) (!(x) ? (y) : !(y) ? (x) : min(x, y))
-#define SETTLED(a, b, d, e) OutLine line = delay_out_line(a, b, d, e)
+#define SETTLED OutLine
+#define SETTLE delay_out_line
 #define BRIDGE(c) (c ? min(line.most, c + line.more) : line.out)
 #include "best_model.h"
 

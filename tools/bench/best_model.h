@@ -1,5 +1,5 @@
 /* The best program for one model: KIND and WEIGHT; KEY, the type of its keys, and KEYS, the name of their form; SERIES and PARALLEL of two keys;
-   SETTLED, what arms a, b, d and e settle, and BRIDGE, the key for a c. */
+   SETTLED, the type of what arms a, b, d and e settle, and SETTLE, which finds it; and BRIDGE, the key for a c and `line`, what is settled. */
 #define OF(name) GLUE(name, KIND)
 #define ROW OF(Row)
 #define TABLE OF(Table)
@@ -96,23 +96,40 @@ static int OF(join)(char letter, const ROW *xs, const ROW *ys, ROW *row) {
   return OF(sorted)(&table, row);
 }
 
+#define SAME_LINE(p, q) (!memcmp(&(p), &(q), sizeof(p)))
+
 static int OF(cross)(const ROW *as, const ROW *bs, const ROW *cs, const ROW *ds, const ROW *es, ROW *row) {
   TABLE table;
   OF(clear)(&table);
-  for (size_t i = 0; cs->len && i < as->len; i++)
+  for (size_t i = 0; cs->len && es->len && i < as->len; i++)
     for (size_t j = 0; j < bs->len; j++) {
       u32 ab = TIMES(as->weight[i], bs->weight[j]);
       if (ab == NONE) continue;
       for (size_t k = 0; k < ds->len; k++) {
         u32 abd = TIMES(ab, ds->weight[k]);
         if (abd == NONE) continue;
+        KEY a = as->key[i], b = bs->key[j], d = ds->key[k];
+#ifdef HOLD_OUTER
+        SETTLED line = SETTLE(a, b, d, es->key[0]);
+        u64 outer = es->weight[0];
+        for (size_t l = 1; l < es->len; l++) {
+          SETTLED next = SETTLE(a, b, d, es->key[l]);
+          if (SAME_LINE(line, next)) outer = SUM(outer, (u64)es->weight[l]);
+          else {
+            EACH(&table, TIMES(abd, cap(outer)), cs, BRIDGE(x));
+            line = next;
+            outer = es->weight[l];
+          }
+        }
+        EACH(&table, TIMES(abd, cap(outer)), cs, BRIDGE(x));
+#else
         for (size_t l = 0; l < es->len; l++) {
           u32 abde = TIMES(abd, es->weight[l]);
           if (abde == NONE) continue;
-          KEY a = as->key[i], b = bs->key[j], d = ds->key[k], e = es->key[l];
-          SETTLED(a, b, d, e);
+          SETTLED line = SETTLE(a, b, d, es->key[l]);
           EACH(&table, abde, cs, BRIDGE(x));
         }
+#endif
       }
     }
   return OF(sorted)(&table, row);
@@ -153,4 +170,6 @@ static inline int OF(met)(const ROW *row, size_t j, const u32 *w) {
 #undef SERIES
 #undef PARALLEL
 #undef SETTLED
+#undef SETTLE
+#undef SAME_LINE
 #undef BRIDGE

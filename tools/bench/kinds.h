@@ -1,5 +1,6 @@
 /* The kinds of performance and of weight in plain C, as docs/KINDS.md tells them. With SHORTCUTS the bridges are written as the engine writes
-   them, so that little is left to do for each c where the other four arms stay. */
+   them, so that little is left to do for each c where the other four arms stay, and these are reduced as the engine reduces them, so that many
+   choices of them are alike. */
 #ifndef KINDS_H
 #define KINDS_H
 
@@ -89,7 +90,14 @@ static inline int meets_Pair(Pair v, Pair w) { return meets_Delay(v.first, w.fir
 static inline Pair Pair_of(const u32 *w) { return (Pair){{w[0]}, {w[1]}}; }
 static inline void Pair_to(Pair p, u32 *w) { w[0] = p.first.v; w[1] = p.second.v; }
 
-/* a kind with the value out */
+/* A kind with the value out. With SHORTCUTS it is asked first whether all outer arms work, as the engine asks. */
+#ifdef SHORTCUTS
+#define WHERE_ALL_WORK(K, a, b, c, d, e)                                                                       \
+  if (!(a.out | b.out | d.out | e.out))                                                                        \
+    return (K##OrOut){0, c.out ? parallel_##K(series_##K(a.v, d.v), series_##K(b.v, e.v)) : bridge_##K(a.v, b.v, c.v, d.v, e.v)};
+#else
+#define WHERE_ALL_WORK(K, a, b, c, d, e)
+#endif
 #define OR_OUT(K)                                                                                              \
   typedef struct { u32 out; K v; } K##OrOut;                                                                   \
   static inline int order_##K##OrOut(K##OrOut a, K##OrOut b) {                                                 \
@@ -106,6 +114,7 @@ static inline void Pair_to(Pair p, u32 *w) { w[0] = p.first.v; w[1] = p.second.v
     return (K##OrOut){0, parallel_##K(a.v, b.v)};                                                              \
   }                                                                                                            \
   static inline K##OrOut bridge_##K##OrOut(K##OrOut a, K##OrOut b, K##OrOut c, K##OrOut d, K##OrOut e) {       \
+    WHERE_ALL_WORK(K, a, b, c, d, e)                                                                           \
     if (c.out) return parallel_##K##OrOut(series_##K##OrOut(a, d), series_##K##OrOut(b, e));                   \
     if (a.out) return series_##K##OrOut(b, parallel_##K##OrOut(e, series_##K##OrOut(c, d)));                   \
     if (b.out) return series_##K##OrOut(a, parallel_##K##OrOut(d, series_##K##OrOut(c, e)));                   \
@@ -119,6 +128,50 @@ static inline void Pair_to(Pair p, u32 *w) { w[0] = p.first.v; w[1] = p.second.v
 
 OR_OUT(Flow)
 OR_OUT(Delay)
+
+#ifdef SHORTCUTS
+/* the four outer arms of a bridge, and whether two choices of them are alike */
+#define OUTER(K)                                                                                                            \
+  typedef struct { K a, b, d, e; } Outer_##K;                                                                                \
+  static inline int like_##K(Outer_##K p, Outer_##K q) {                                                                      \
+    return !order_##K(p.a, q.a) && !order_##K(p.b, q.b) && !order_##K(p.d, q.d) && !order_##K(p.e, q.e);                    \
+  }
+
+/* Reduced: what passes without c, twice, and what c adds to, of which no more than that counts. */
+#define REDUCED(K, without_c, with_c)                                                                                       \
+  OUTER(K)                                                                                                                  \
+  static inline Outer_##K reduced_##K(K a, K b, K d, K e) {                                                                  \
+    K without = without_c;                                                                                                  \
+    return (Outer_##K){{0}, without, without, with_c};                                                                       \
+  }
+
+REDUCED(Flow, series_Flow(parallel_Flow(a, b), parallel_Flow(d, e)), series_Flow(series_Flow(parallel_Flow(a, e), parallel_Flow(b, d)), without))
+#define WITHOUT(K) parallel_##K(series_##K(a, d), series_##K(b, e))
+#define WITH(K) parallel_##K(without, parallel_##K(series_##K(a, e), series_##K(b, d)))
+REDUCED(Delay, WITHOUT(Delay), WITH(Delay))
+REDUCED(FaultSet, WITHOUT(FaultSet), WITH(FaultSet))
+REDUCED(FirstFault, WITHOUT(FirstFault), WITH(FirstFault))
+
+OUTER(Pair)
+static inline Outer_Pair reduced_Pair(Pair a, Pair b, Pair d, Pair e) {
+  Outer_Delay first = reduced_Delay(a.first, b.first, d.first, e.first);
+  Outer_Flow second = reduced_Flow(a.second, b.second, d.second, e.second);
+  return (Outer_Pair){{first.a, second.a}, {first.b, second.b}, {first.d, second.d}, {first.e, second.e}};
+}
+
+/* One outer arm that is out is taken for one that does as if it were not there. */
+#define REDUCED_OR_OUT(K, absent)                                                                                           \
+  OUTER(K##OrOut)                                                                                                           \
+  static inline Outer_##K##OrOut reduced_##K##OrOut(K##OrOut a, K##OrOut b, K##OrOut d, K##OrOut e) {                       \
+    if (a.out + b.out + d.out + e.out > 1) return (Outer_##K##OrOut){a, b, d, e};                                           \
+    K none = {absent};                                                                                                      \
+    Outer_##K inner = reduced_##K(a.out ? none : a.v, b.out ? none : b.v, d.out ? none : d.v, e.out ? none : e.v);          \
+    return (Outer_##K##OrOut){{0, inner.a}, {0, inner.b}, {0, inner.d}, {0, inner.e}};                                      \
+  }
+
+REDUCED_OR_OUT(Flow, 0)
+REDUCED_OR_OUT(Delay, TOP)
+#endif
 
 /* weights */
 static inline u32 sum_Parts(u32 a, u32 b) { return cap((u64)a + b); }

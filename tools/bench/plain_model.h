@@ -1,7 +1,7 @@
 /* The plain program for one model, KIND and WEIGHT: each combination is looked up by a binary search in the row so far, and added or
    put in. With SHORTCUTS it does what the engine does: it looks first where the last performance of that slot was merged, then at the next
    place; goes no further with arms whose product weighs nothing; takes arm c of a bridge last; and holds back like performances that
-   follow one another, to sum their weights up before they are multiplied. */
+   follow one another, to sum their weights up before they are multiplied, and so outer arms of a bridge that are alike once they are reduced. */
 #define OF(name) GLUE(name, KIND)
 #define TERM OF(Term)
 #define ROW OF(Row)
@@ -79,6 +79,12 @@ static int OF(join)(char letter, const ROW *xs, const ROW *ys, ROW *row) {
   return 1;
 }
 
+/* All of arm c with outer arms, which weigh abde. */
+static int OF(through)(OF(Outer) o, u32 abde, const ROW *c, ROW *row) {
+  EACH(row, abde, c, OF(bridge)(o.a, o.b, x, o.d, o.e));
+  return 1;
+}
+
 static int OF(cross)(const ROW *a, const ROW *b, const ROW *c, const ROW *d, const ROW *e, ROW *row) {
   OF(empty)(row);
   for (size_t i = 0; i < a->len; i++)
@@ -87,11 +93,19 @@ static int OF(cross)(const ROW *a, const ROW *b, const ROW *c, const ROW *d, con
       if (ab == NONE) continue;
       for (size_t k = 0; k < d->len; k++) {
         u32 abd = TIMES(ab, d->terms[k].w);
-        if (abd == NONE) continue;
-        for (size_t l = 0; l < e->len; l++) {
-          u32 abde = TIMES(abd, e->terms[l].w);
-          EACH(row, abde, c, OF(bridge)(a->terms[i].p, b->terms[j].p, x, d->terms[k].p, e->terms[l].p));
+        if (abd == NONE || !e->len) continue;
+        OF(Outer) held = OF(reduced)(a->terms[i].p, b->terms[j].p, d->terms[k].p, e->terms[0].p);
+        u32 sum = e->terms[0].w;
+        for (size_t l = 1; l < e->len; l++) {
+          OF(Outer) now = OF(reduced)(a->terms[i].p, b->terms[j].p, d->terms[k].p, e->terms[l].p);
+          if (OF(like)(now, held)) sum = SUM(sum, e->terms[l].w);
+          else {
+            if (!OF(through)(held, TIMES(abd, sum), c, row)) return 0;
+            held = now;
+            sum = e->terms[l].w;
+          }
         }
+        if (!OF(through)(held, TIMES(abd, sum), c, row)) return 0;
       }
     }
   return 1;

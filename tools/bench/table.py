@@ -3,8 +3,8 @@
 
     python3 table.py PROGRAMS MODELS [TURNS]
 
-PROGRAMS is a folder with the programs engine, plain, same and best, each linked twice, as engine-0 and engine-16; MODELS is the folder that
-write.py wrote.
+PROGRAMS is a folder with the programs engine, plain, same, best and held, each linked twice, as engine-0 and engine-16; MODELS is the folder
+that write.py wrote.
 """
 
 import subprocess
@@ -22,7 +22,7 @@ NAMES = {
     6: "flow-or-out, parts",
     7: "delay-or-out, parts",
 }
-C_PROGRAMS = ("engine", "plain", "same", "best")
+C_PROGRAMS = ("engine", "plain", "same", "best", "held")
 LINKS = ("0", "16")  # how many bytes further the code lies
 SECONDS = "0.1"  # a program calls for so long at least, and three times at least
 # Begun by a shell, since a process inherits the peak of the one that it was before: a shell has less than any of these.
@@ -79,7 +79,7 @@ def ms(nanoseconds):
 
 
 def ratios(figures, title, shape, size):
-    heading(title, "kind, weight", "engine, ms", "plain C, ms", "same C, ms", "best C, ms", "engine / plain", "engine / same", "engine / best")
+    heading(title, "kind, weight", "engine, ms", "plain C, ms", "same C, ms", "best C, ms", "held C, ms", "engine / plain", "engine / same", "engine / best", "engine / held")
     for model in MODELS:
         engine, *others = times = figures.take(f"{shape}-{model}-{size}")
         line(NAMES[model], *map(ms, times), *(f"{engine / other:.2f}" for other in others))
