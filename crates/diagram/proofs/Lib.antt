@@ -24,3 +24,5 @@ pub mod Moving
 pub mod Questions
 pub mod Stepping
 pub mod Promise
+pub mod Standing
+pub mod Counted

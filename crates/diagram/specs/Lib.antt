@@ -4,6 +4,7 @@ pub mod Records
 pub mod Changes
 pub mod Writing
 pub mod Store
+pub mod Standing
 pub mod Results
 pub mod Working
 pub mod Histories
@@ -11,3 +12,4 @@ pub mod RightAnswers
 pub mod Calls
 pub mod Shown
 pub mod Runs
+pub mod Counted

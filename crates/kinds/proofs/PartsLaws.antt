@@ -1,4 +1,9 @@
--- Parts are a lawful weight.
+-- Parts are a lawful weight, and count up to the top.
+use Rattle.std.proofs.Common.{refl, arith}
+use Rattle.kinds.specs.Capped.{top32}
+use Rattle.kinds.specs.Counting.{CountsTo}
+use Rattle.kinds.specs.Words.{number}
+use Rattle.kinds.specs.WordLaws.{word_same}
 use Rattle.kinds.specs.contracts.parts.PartsWeight.TheImpl as parts_weight
 use Rattle.kinds.specs.contracts.parts.PartsWeight.TheImpl.Laws as laws
 use Rattle.kinds.proofs.Lawful.{Weighing}
@@ -15,4 +20,14 @@ parts_laws = record {
   product_comm = laws.product_commutative-law;
   distributes = laws.product_distributes-law;
   absorbs = laws.product_nothing-law;
+}
+
+pub parts_count : CountsTo top32 parts_weight.ghosts number
+parts_count = record {
+  some = omega arith;
+  at_most = λ w. let fits = w.fits in omega (arith, fits);
+  tells = word_same;
+  nothing = refl;
+  sum = λ v w. refl;
+  product = λ v w. refl;
 }

@@ -1,5 +1,5 @@
 -- Facts on capping, for any top.
-use Rattle.std.specs.Prelude.{◌≡◌, ℕ, zero, suc, ◌+◌, ◌*◌, ◌≤◌, min}
+use Rattle.std.specs.Prelude.{◌≡◌, ◌↔◌, ℕ, zero, suc, ◌+◌, ◌*◌, ◌<◌, ◌≤◌, min}
 use Rattle.std.proofs.Common.{ap, sym, ◌∙◌, ⊎_elim, mul-add, suc-mul, zero-mul, mul_comm, mul_assoc, arith}
 use Rattle.std.proofs.lemmas.Bool.{cases_lt}
 use Rattle.kinds.specs.Capped.{capped, capped_sum, capped_product, least_of_four}
@@ -11,6 +11,18 @@ module _ (top : ℕ) where
 
   pub unchanged : (n : ℕ) → n ≤ top → capped top n ≡ n
   unchanged n h = omega arith
+
+  pub below_top : (n : ℕ) → capped top n < top → capped top n ≡ n
+  below_top n h = omega arith
+
+  pub at_top : (n : ℕ) → (capped top n ≡ top) ↔ (top ≤ n)
+  at_top n = (λ e. omega (arith, e), λ h. omega (arith, h))
+
+  pub respects_nothing : capped top 0 ≡ 0
+  respects_nothing = omega arith
+
+  pub respects_sum : (a b : ℕ) → capped top (a + b) ≡ capped_sum top (capped top a) (capped top b)
+  respects_sum a b = omega arith
 
   pub sum_none_both : (a b : ℕ) → a ≤ top → b ≤ top → capped_sum top a b ≡ 0 → (a ≡ 0) × (b ≡ 0)
   sum_none_both a b h k e = (omega arith, omega arith)
@@ -62,6 +74,11 @@ module _ (top : ℕ) where
       (λ large. omega arith)
       (cases_lt b top)
 
+  -- both factors may
+  pub respects_product : (a b : ℕ) → capped top (a * b) ≡ capped_product top (capped top a) (capped top b)
+  respects_product a b =
+      sym (cap_factor (capped top a) b ∙ ap (capped top) (mul_comm (capped top a) b) ∙ cap_factor b a ∙ ap (capped top) (mul_comm b a))
+
   pub product_assoc : (a b c : ℕ) → capped_product top (capped_product top a b) c ≡ capped_product top a (capped_product top b c)
   product_assoc a b c =
       product_comm (capped_product top a b) c ∙ cap_factor c (a * b) ∙ ap (capped top) (mul_comm c (a * b) ∙ mul_assoc a b c)
@@ -77,6 +94,11 @@ pub cap_laws : CappingKeeps
 cap_laws top = record {
   at_most = at_most top;
   unchanged = unchanged top;
+  below_top = below_top top;
+  at_top = at_top top;
+  respects_nothing = respects_nothing top;
+  respects_sum = respects_sum top;
+  respects_product = respects_product top;
   sum_assoc = sum_assoc top;
   sum_comm = sum_comm top;
   sum_three = sum_three top;

@@ -1,6 +1,7 @@
 pub mod Capped
 pub mod Fits
 pub mod CapLaws
+pub mod Counting
 pub mod Holding
 pub mod Flows
 pub mod Delays

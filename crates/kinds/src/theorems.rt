@@ -1,12 +1,22 @@
 // Theorems about the definitions, each the contract of a function.
 ghost use Rattle.kinds.specs.CapLaws.{CappingKeeps};
+ghost use Rattle.kinds.specs.Capped.{top32};
+ghost use Rattle.kinds.specs.Counting.{CountsTo};
 ghost use Rattle.kinds.specs.Holding.{Numbers32};
 ghost use Rattle.kinds.specs.Members.{MeetsIsWithin, UnionHas, IntersectionHas};
 ghost use Rattle.kinds.specs.Words.{number};
 
+use crate::values::Parts;
+use crate::weight::Weight;
+
 // What capped sums and products keep of the laws of numbers, for any top.
 pub fn capping_keeps_laws()
     ensures { CappingKeeps }
+{}
+
+// Parts are told by their numbers, and count up to the top.
+pub fn parts_count_to_the_top()
+    ensures { CountsTo top32 ⟦<Parts as Weight>⟧ number }
 {}
 
 // The values of each named kind and weight are the numbers of 32 bits: every one of them, and no other.

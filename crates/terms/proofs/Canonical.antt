@@ -24,7 +24,7 @@ pub by_test : {X : Type 0} (b : Bool) → (b ≡ true → X) → (b ≡ false �
 by_test true t f = t refl
 by_test false t f = f refl
 
-clash : {b : Bool} → b ≡ true → b ≡ false → ⊥
+pub clash : {b : Bool} → b ≡ true → b ≡ false → ⊥
 clash {b} p q = let z : ◌≡◌ {A = ℕ} 0 1 = cc in omega arith
 
 module _ {P W : Type 0} (kind : Performance.Ghosts P) (weights : Weight.Ghosts W) where
@@ -166,10 +166,10 @@ module _ {P W : Type 0} {kind : Performance.Ghosts P} {weights : Weight.Ghosts W
 
   -- a row is known by its distribution
 
-  share_is : (p : P) (t : T) (o : Ordering) → kind.compared t.performance p ≡ o → share kind weights p t ≡ if_same o t.weight weights.nothing
+  pub share_is : (p : P) (t : T) (o : Ordering) → kind.compared t.performance p ≡ o → share kind weights p t ≡ if_same o t.weight weights.nothing
   share_is p t o e = ap (λ z. if_same z t.weight weights.nothing) e
 
-  skipped : (p : P) (t : T) (ts : List T) → share kind weights p t ≡ weights.nothing → weight_at kind weights (t ∷ ts) p ≡ weight_at kind weights ts p
+  pub skipped : (p : P) (t : T) (ts : List T) → share kind weights p t ≡ weights.nothing → weight_at kind weights (t ∷ ts) p ≡ weight_at kind weights ts p
   skipped p t ts e = ap (λ z. z ⊕ weight_at kind weights ts p) e ∙ w.neutral (weight_at kind weights ts p)
 
   none_above : (p : P) (r : List T) → Above kind weights p r → weight_at kind weights r p ≡ weights.nothing
@@ -177,7 +177,7 @@ module _ {P W : Type 0} {kind : Performance.Ghosts P} {weights : Weight.Ghosts W
   none_above p (t ∷ ts) h = skipped p t ts (share_is p t Greater (less_greater p t.performance h.0)) ∙ none_above p ts h.1
 
   -- the first of a row has its own weight
-  first_weight : (t : T) (ts : List T) → Above kind weights t.performance ts → weight_at kind weights (t ∷ ts) t.performance ≡ t.weight
+  pub first_weight : (t : T) (ts : List T) → Above kind weights t.performance ts → weight_at kind weights (t ∷ ts) t.performance ≡ t.weight
   first_weight t ts h =
       ap (λ z. z ⊕ weight_at kind weights ts t.performance) (share_is t.performance t Equal (k.same_itself t.performance))
       ∙ ap (λ z. t.weight ⊕ z) (none_above t.performance ts h)

@@ -6,6 +6,7 @@ pub mod Voiding
 pub mod Ways
 pub mod Combining
 pub mod Answering
+pub mod Counting
 pub mod Each
 pub mod Picks
 pub mod Stepwise

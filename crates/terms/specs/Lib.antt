@@ -7,6 +7,7 @@ pub mod Sums
 pub mod Laws
 pub mod Drawings
 pub mod Enumeration
+pub mod Counted
 pub mod Steps
 pub mod Readings
 pub mod EnumerationLaws
