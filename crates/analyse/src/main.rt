@@ -2,7 +2,7 @@
 #![tactic(auto)]
 
 ghost use Rattle.std.specs.Prelude.{◌≡◌, IfOk, IfSome, OnOk, take};
-ghost use Rattle.analyse.specs.Printed.{looked_at, Answers};
+ghost use Rattle.files.specs.Printed.{looked_at, Answers};
 
 use files::analysis::{LONGEST_REPORT, analyse};
 use std::alloc::Global;

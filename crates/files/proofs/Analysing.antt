@@ -16,12 +16,17 @@ use Rattle.files.specs.declared.fault.Fault.{Fault}
 use Rattle.files.specs.declared.model.Model.{Model}
 use Rattle.files.specs.Contents.{Contents}
 use Rattle.files.specs.Drawn.{drawn}
-use Rattle.files.specs.Reading.{ContentsRead, ReadsBack, ValidContents}
-use Rattle.files.specs.Models.{Shows, ReadInto, StoreLeft}
+use Rattle.files.specs.declared.fault.Fault.TheVariants.{Records}
+use Rattle.files.specs.Reading.{ContentsRead, ReadsBack, ReadsOneWay, ValidContents}
+use Rattle.files.specs.Models.{Shows, ReadInto}
+use Rattle.files.specs.Left.{RowsLeft, LeftByReading, LeftByAnalysing}
+use Rattle.files.specs.Faults.{record_of}
 use Rattle.files.specs.Analyses.{AllCollected, AnalysedOver}
 use Rattle.files.specs.Reports.{Unreported}
 use Rattle.files.proofs.Collecting.{many_made}
-use Rattle.files.specs.Steps.{NodesCollected, NodeReported, AllAnswer}
+use Rattle.files.specs.Steps.{NodesCollected, NodesLeft, NodeReported, AllAnswer}
+use Rattle.files.proofs.Left.{left_on}
+use Rattle.diagram.specs.Refusals.{Asked}
 
 pub not_both : {A E : Type 0} {a : A} {e : E} → ◌≡◌ {A = Result A E} (Ok a) (Err e) → ⊥
 not_both e = true≢false (ap is_ok e)
@@ -38,12 +43,6 @@ pub passed_on : {A : Type 0} {r : Result A Fault} {why : Fault} → IsErrAnd r (
 passed_on {r = Ok a} e = absurd e
 passed_on {r = Err f} e = ap Err e
 
--- the store stays as long
-pub left_long : {T : Type 0} (bytes : List ℕ) {s s' : List T} → StoreLeft bytes s s' → length s' ≡ length s
-left_long bytes (inl (roomy, (inl (counted, k)))) = k.as_long
-left_long bytes (inl (roomy, (inr (none, e)))) = ap length e
-left_long bytes (inr (short, e)) = ap length e
-
 module _ {P W : Type 0} (kind : Performance.Ghosts P) (weights : Weight.Ghosts W) (file_kind : FilePerformance.Ghosts P) (file_weights : FileWeight.Ghosts W) where
   abbrev Terms : Type 0
   Terms = List (Term P W)
@@ -54,6 +53,25 @@ module _ {P W : Type 0} (kind : Performance.Ghosts P) (weights : Weight.Ghosts W
   module _ (bytes : List ℕ) (s s' : Terms) where
     abbrev Into : Result (Model P W) Fault → Type 0
     Into r = ReadInto kind weights file_kind file_weights bytes s r s'
+
+    abbrev LeftRead : Type 0
+    LeftRead = LeftByReading kind weights file_kind file_weights bytes s s'
+
+    -- the store stays as long
+    pub left_long : LeftRead → length s' ≡ length s
+    left_long (inl (roomy, (inl (counted, (Ok c, is, left))))) = left.others.as_long
+    left_long (inl (roomy, (inl (counted, (Err why, is, (ms, first, left)))))) = left.others.as_long
+    left_long (inl (roomy, (inr (none, e)))) = ap length e
+    left_long (inr (short, e)) = ap length e
+
+    -- at a fault of the file analysing leaves what reading does
+    pub fault_left : ReadsOneWay kind weights file_kind file_weights → (why : Fault) → Into (Err why) → LeftRead → LeftByAnalysing kind weights file_kind file_weights bytes s s'
+    fault_left one why (inl (roomy, (Ok c, is, shows))) left = absurd shows
+    fault_left one why into (inr (short, e)) = inr (short, e)
+    fault_left one why into (inl (roomy, inr (none, e))) = inl (roomy, inr (none, e))
+    fault_left one why into (inl (roomy, inl (counted, (Err f, is, left)))) = inl (roomy, inl (counted, (Err f, is, left)))
+    fault_left one why (inl (_, (Err f, is', e))) (inl (roomy, inl (counted, (Ok c, is, left)))) = absurd (not_both (one bytes (Ok c) (Err f) is is'))
+    fault_left one why (inr (short, e)) (inl (roomy, inl (counted, (Ok c, is, left)))) = absurd (short roomy)
 
     module _ (out : List ℕ) (r : Result ℕ Fault) (out' : List ℕ) where
       pub stops_reading : (why : Fault) → Into (Err why) → Unreported out r out' why → AnalysedOver kind weights file_kind file_weights out r out' s bytes
@@ -79,6 +97,32 @@ module _ {P W : Type 0} (kind : Performance.Ghosts P) (weights : Weight.Ghosts W
 
       valid : ValidContents kind weights file_kind file_weights shown.0
       valid = ((back bytes (Ok shown.0) shown.1 shown.0).0 refl).1
+
+      -- the rows of the parts are left by reading, and those of the nodes collected since by analysing
+      pub analysed_left : ReadsOneWay kind weights file_kind file_weights → LeftRead → (s'' : Terms) → NodesLeft kind weights m.nodes m.diagram s' s'' → LeftByAnalysing kind weights file_kind file_weights bytes s s''
+      analysed_left one left s'' collected =
+          inl (roomy, inl ((told shown.1).0, (Ok c, shown.1, more (collected (length s) c.nodes (sym shown.2.nodes) valid.taken (omega (arith, roomy, left_long left)) shown.2.run))))
+        where
+          c : Contents P W
+          c = shown.0
+
+          told : {q rest : Type 0} → Asked q (◌≡◌ {A = Result (Contents P W) Fault} (Ok c) (Err Records)) rest → q × rest
+          told (inl x) = x
+          told (inr x) = absurd (not_both x.1)
+
+          parts : LeftRead → RowsLeft kind weights 0 c.nodes s s'
+          parts (inr (short, e)) = absurd (short roomy)
+          parts (inl (_, inr (none, e))) = absurd (none (told shown.1).0)
+          parts (inl (_, inl (counted, (Err f, is, left)))) = absurd (not_both (one bytes (Ok c) (Err f) shown.1 is))
+          parts (inl (_, inl (counted, (Ok c', is, left)))) = let same : c' ≡ c = cc (one bytes (Ok c') (Ok c) is shown.1) in subst (λ z. RowsLeft kind weights 0 z.nodes s s') same left
+
+          on : (n : ℕ) → RowsLeft kind weights n c.nodes s' s'' → RowsLeft kind weights n c.nodes s s''
+          on n = left_on kind weights n c.nodes s s' s'' (parts left)
+
+          more : AllCollected kind weights (drawn c.nodes) (λ why. RowsLeft kind weights (record_of why) c.nodes s' s'') (RowsLeft kind weights (length c.nodes) c.nodes s' s'') →
+              AllCollected kind weights (drawn c.nodes) (λ why. RowsLeft kind weights (record_of why) c.nodes s s'') (RowsLeft kind weights (length c.nodes) c.nodes s s'')
+          more (inl (k, why, l, shorts, long, x)) = inl (k, why, l, shorts, long, on k x)
+          more (inr (shorts, x)) = inr (shorts, on (length c.nodes) x)
 
       -- there is a node
       pub nodes_read : 1 ≤ m.nodes

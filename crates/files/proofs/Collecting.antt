@@ -19,12 +19,16 @@ use Rattle.diagram.specs.Runs.{told, Run, AnswersRight}
 use Rattle.diagram.proofs.Holding.{but_at, but_else}
 use Rattle.diagram.proofs.Since.{since_now, since_kept}
 use Rattle.files.specs.Drawn.{history_of, drawn, TakesNext, TakesAll}
-use Rattle.files.specs.Analyses.{Short, TooLong}
+use Rattle.files.specs.Analyses.{Short, TooLong, AllCollected}
+use Rattle.files.specs.declared.fault.Fault.{Fault}
 use Rattle.files.specs.declared.fault.Fault.TheVariants.{Refused}
 use Rattle.files.specs.Steps.{NodesCollected}
 use Rattle.files.proofs.Asking.{denied, given}
 use Rattle.files.proofs.Lent.{same_made, same_makings, same_drawings, same_states}
 use Rattle.files.proofs.Running.{granted, entry, answered}
+
+err_same : {why why' : Refusal} → ◌≡◌ {A = Result ℕ Refusal} (Err why) (Err why') → why ≡ why'
+err_same {why} e = cc e
 
 module _ {P W : Type 0} where
   abbrev MadePart : Option (Making P W) → Type 0
@@ -45,7 +49,7 @@ module _ {P W : Type 0} where
   many_made lent (joined_from way children ∷ ms) = omega (arith, many_made lent ms)
   many_made lent (bridged_from a b c d e ∷ ms) = omega (arith, many_made lent ms)
 
-  last_making : (lent : ℕ) (ms : List (Making P W)) (m : Making P W) → making_of (history_of lent (m ∷ ms)) ≡ but (length ms) (Some m) (making_of (history_of lent ms))
+  pub last_making : (lent : ℕ) (ms : List (Making P W)) (m : Making P W) → making_of (history_of lent (m ∷ ms)) ≡ but (length ms) (Some m) (making_of (history_of lent ms))
   last_making lent ms (added states) = refl
   last_making lent ms (joined_from way children) = refl
   last_making lent ms (bridged_from a b c d e) = refl
@@ -187,11 +191,16 @@ module _ {P W : Type 0} (kind : Performance.Ghosts P) (weights : Weight.Ghosts W
         | inr (passed, t) ↦ t
       ]
 
-      pub stops : {why : Refusal} → r ≡ Err why → why ≢ NotJoined → NodesCollected kind weights n d₀ s₀ (Err (Refused k why)) d' s'
-      stops is other lent ms many takes roomy run = elim (one_more lent ms many takes roomy run) [
+      -- what stops the collecting is that a running result or an arm is too long
+      pub too_long : {why : Refusal} → r ≡ Err why → why ≢ NotJoined → (lent : ℕ) (ms : List (Making P W)) → length ms ≡ n → TakesAll kind weights ms → 3200 ≤ length s₀ → Run kind weights (history_of lent ms) d₀ s₀ →
+          (refused : Fault → Type 0) {rest : Type 0} → refused (Refused k why) → AllCollected kind weights (drawn ms) refused rest
+      too_long is other lent ms many takes roomy run refused so = elim (one_more lent ms many takes roomy run) [
         | inl (why, y, is') ↦
             let same = sym is ∙ untold r is' in
-            inl (k, why, omega (arith, l, many, many_made 3200 ms), (below lent ms many takes roomy run).2.short, y, cc)
+            inl (k, why, omega (arith, l, many, many_made 3200 ms), (below lent ms many takes roomy run).2.short, y, subst (λ w. refused (Refused k w)) (err_same same) so)
         | inr (inl q, t) ↦ let same = sym is ∙ untold r q in absurd (other cc)
         | inr (inr q, t) ↦ let same = sym (ap (told number) is) ∙ q.1 in absurd (cc)
       ]
+
+      pub stops : {why : Refusal} → r ≡ Err why → why ≢ NotJoined → NodesCollected kind weights n d₀ s₀ (Err (Refused k why)) d' s'
+      stops {why} is other lent ms many takes roomy run = too_long is other lent ms many takes roomy run (λ f. ◌≡◌ {A = Result (Unit {0}) Fault} (Err (Refused k why)) (Err f)) refl

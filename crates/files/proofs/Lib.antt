@@ -2,6 +2,9 @@ pub mod Analysing
 pub mod Asking
 pub mod Bytes
 pub mod Collecting
+pub mod Counted
+pub mod Known
+pub mod Left
 pub mod Lent
 pub mod Lines
 pub mod Many

@@ -17,6 +17,7 @@ use Rattle.files.specs.declared.model.Model.{Model}
 use Rattle.files.specs.Contents.{Contents, demand_letter, performance_bytes, demand_bytes}
 use Rattle.files.specs.Drawn.{history_of}
 use Rattle.files.specs.Reading.{Counted, DemandLetter, Headed, Whole, RecordsRead}
+use Rattle.files.specs.Left.{nodes_before, LeftByReading}
 use Rattle.files.specs.Models.{ReadInto}
 use Rattle.files.specs.Steps.{DemandsHandedOn, NodesDrawn}
 use Rattle.files.proofs.Analysing.{not_both, fault_same}
@@ -82,21 +83,52 @@ module _ {P W : Type 0} (kind : Performance.Ghosts P) (weights : Weight.Ghosts W
     pub uncounted : ¬ Counted bytes → Into (Err Records)
     uncounted none = inl (roomy, (Err Records, inr (none, refl), refl))
 
+    abbrev Leaves : Type 0
+    Leaves = LeftByReading kind weights file_kind file_weights bytes s s'
+
+    module _ (is : Counted bytes) {X : Type 0} (shown : X → List ℕ) (d : Diagram P W) where
+      -- a record that makes a node is at fault
+      pub nodes_refused : {r : Result (Model P W) Fault} (why : Fault) → IsErrAnd r (λ e. e ≡ why) → NodesDrawn kind weights file_kind file_weights shown s (get_or bytes 0 0 - 1) (take (length bytes - 1) (drop 1 bytes)) (Err why) d s' → Into r × Leaves
+      nodes_refused {r = Ok m} why e x = absurd e
+      nodes_refused {r = Err f} why e x =
+          let drew = subst (λ l. NodesDrawn kind weights file_kind file_weights shown s (get_or bytes 0 0 - 1) l (Err why) d s') (after_first bytes) x in (
+            inl (roomy, (Err why, inl (is, drew.0), ap Err e)),
+            inl (roomy, inl (is, (Err why, inl (is, drew.0), drew.1))),
+          )
+
     module _ (is : Counted bytes) {X : Type 0} (shown : X → List ℕ) (d : Diagram P W) (last : X)
-        (drew' : NodesDrawn kind weights file_kind file_weights shown (length s) (get_or bytes 0 0 - 1) (take (length bytes - 1) (drop 1 bytes)) (Ok last) d s') where
+        (drew' : NodesDrawn kind weights file_kind file_weights shown s (get_or bytes 0 0 - 1) (take (length bytes - 1) (drop 1 bytes)) (Ok last) d s') where
       -- all of the bytes after the first
-      drew : NodesDrawn kind weights file_kind file_weights shown (length s) (get_or bytes 0 0 - 1) (drop 1 bytes) (Ok last) d s'
-      drew = subst (λ l. NodesDrawn kind weights file_kind file_weights shown (length s) (get_or bytes 0 0 - 1) l (Ok last) d s') (after_first bytes) drew'
+      drew : NodesDrawn kind weights file_kind file_weights shown s (get_or bytes 0 0 - 1) (drop 1 bytes) (Ok last) d s'
+      drew = subst (λ l. NodesDrawn kind weights file_kind file_weights shown s (get_or bytes 0 0 - 1) l (Ok last) d s') (after_first bytes) drew'
 
-      pub last_refused : {r : Result (Model P W) Fault} (why : Fault) → IsErrAnd r (λ e. e ≡ why) → DemandsHandedOn file_kind shown (get_or bytes 0 0 - 1) (shown last) (Err why) → Into r
+      many : length drew.0 ≡ get_or bytes 0 0 - 1
+      many = drew.1.0
+
+      -- the last record is at fault, after all that make nodes
+      refused : (why : Fault) → DemandsHandedOn file_kind shown (get_or bytes 0 0 - 1) (shown last) (Err why) → RecordsRead kind weights file_kind file_weights (get_or bytes 0 0 - 1) [] (drop 1 bytes) (Err why)
+      refused why x = drew.4 (Err why) (demands_refused shown drew.0 (shown last) why (subst (λ k. DemandsHandedOn file_kind shown k (shown last) (Err why)) (sym many) x))
+
+      -- its fault comes after all nodes
+      after_nodes : (n : ℕ) (why : Fault) → DemandsHandedOn file_kind shown n (shown last) (Err why) → nodes_before n why ≡ n
+      after_nodes n why (inl (headed, (inl (whole, (inl (ahead, (demands, rest, e, inl (ends, gone)))))))) = absurd gone
+      after_nodes n why (inl (headed, (inl (whole, (inl (ahead, (demands, rest, e, inr (more, gone)))))))) = ap (nodes_before n) (fault_same gone)
+      after_nodes n why (inl (headed, (inl (whole, (inr (none, gone)))))) = ap (nodes_before n) (fault_same gone)
+      after_nodes n why (inl (headed, (inr (cut, gone)))) = ap (nodes_before n) (fault_same gone)
+      after_nodes n why (inr (other, gone)) = ap (nodes_before n) (fault_same gone)
+
+      pub last_refused : {r : Result (Model P W) Fault} (why : Fault) → IsErrAnd r (λ e. e ≡ why) → DemandsHandedOn file_kind shown (get_or bytes 0 0 - 1) (shown last) (Err why) → Into r × Leaves
       last_refused {r = Ok m} why e x = absurd e
-      last_refused {r = Err f} why e x =
-          let x' = subst (λ k. DemandsHandedOn file_kind shown k (shown last) (Err why)) (sym drew.1) x in
-          inl (roomy, (Err why, inl (is, drew.4 (Err why) (demands_refused shown drew.0 (shown last) why x')), ap Err e))
+      last_refused {r = Err f} why e x = (
+        inl (roomy, (Err why, inl (is, refused why x), ap Err e)),
+        inl (roomy, inl (is, (Err why, inl (is, refused why x), (drew.0, (many ∙ sym (after_nodes (get_or bytes 0 0 - 1) why x), drew.1.1, drew.1.2, drew.1.3), drew.2)))),
+      )
 
-      pub all_read : (m : Model P W) (body : X) → m.diagram ≡ d → m.nodes ≡ get_or bytes 0 0 - 1 → m.demands.now ≡ shown body → DemandsHandedOn file_kind shown (get_or bytes 0 0 - 1) (shown last) (Ok body) → Into (Ok m)
+      pub all_read : (m : Model P W) (body : X) → m.diagram ≡ d → m.nodes ≡ get_or bytes 0 0 - 1 → m.demands.now ≡ shown body → DemandsHandedOn file_kind shown (get_or bytes 0 0 - 1) (shown last) (Ok body) → Into (Ok m) × Leaves
       all_read m body same nodes demands x =
-          let x' = subst (λ k. DemandsHandedOn file_kind shown k (shown last) (Ok body)) (sym drew.1) x in
+          let x' = subst (λ k. DemandsHandedOn file_kind shown k (shown last) (Ok body)) (sym many) x in
           let taken = demands_taken shown drew.0 (shown last) body x' in
-          let c : Contents P W = record { nodes = drew.0; demands = taken.0 } in
-          inl (roomy, (Ok c, inl (is, drew.4 (Ok c) taken.2), record { run = subst (λ z. Run kind weights (history_of (length s) drew.0) z s') (sym same) drew.3; nodes = nodes ∙ sym drew.1; demands = demands ∙ taken.1 }))
+          let c : Contents P W = record { nodes = drew.0; demands = taken.0 } in (
+            inl (roomy, (Ok c, inl (is, drew.4 (Ok c) taken.2), record { run = subst (λ z. Run kind weights (history_of (length s) drew.0) z s') (sym same) drew.3; nodes = nodes ∙ sym many; demands = demands ∙ taken.1 })),
+            inl (roomy, inl (is, (Ok c, inl (is, drew.4 (Ok c) taken.2), drew.2))),
+          )

@@ -99,7 +99,7 @@ module _ {P W : Type 0} (kind : Performance.Ghosts P) (weights : Weight.Ghosts W
       }
 
   -- a file that is read is the writing of its contents, and they are valid
-  contents_read : (bytes : List ℕ) (c : Contents P W) → ContentsRead kind weights file_kind file_weights bytes (Ok c) → (bytes ≡ contents_bytes file_kind file_weights c) × ValidHere c
+  pub contents_read : (bytes : List ℕ) (c : Contents P W) → ContentsRead kind weights file_kind file_weights bytes (Ok c) → (bytes ≡ contents_bytes file_kind file_weights c) × ValidHere c
   contents_read [] c x = absurd ((given x).0)
   contents_read (count ∷ records) c x =
       let counted = given x in
@@ -118,7 +118,7 @@ module _ {P W : Type 0} (kind : Performance.Ghosts P) (weights : Weight.Ghosts W
       subst₂ (λ k z. Read k [] z answer) more (sym (append_assoc (nodes_bytes file_kind file_weights ms) (node_bytes file_kind file_weights m) rest)) (nodes_read ms taken.0 (suc n) here answer step)
 
   -- valid contents are read from their writing
-  writing_read : (c : Contents P W) → ValidHere c → ContentsRead kind weights file_kind file_weights (contents_bytes file_kind file_weights c) (Ok c)
+  pub writing_read : (c : Contents P W) → ValidHere c → ContentsRead kind weights file_kind file_weights (contents_bytes file_kind file_weights c) (Ok c)
   writing_read c valid =
       let last = sym (append-nil (demand_bytes file_kind c.demands)) in
       let end : Read 0 c.nodes (demand_bytes file_kind c.demands) (Ok c) =

@@ -1,5 +1,5 @@
 -- Runs go on, call by call, and stores stay as long.
-use Rattle.std.proofs.Common.{◌≡◌, ℕ, ◌<◌, ◌≤◌, List, ◌∷◌, length, drop, Result, Ok, is_ok, sym, ◌∙◌, ap, refl, subst, inl, inr}
+use Rattle.std.proofs.Common.{◌≡◌, ℕ, ◌+◌, ◌<◌, ◌≤◌, List, ◌∷◌, length, Result, Ok, Err, is_ok, ap, refl, subst, inl, inr, arith}
 use Rattle.std.proofs.lemmas.Bool.{true≢false}
 use Rattle.kinds.specs.declared.performance.Performance
 use Rattle.kinds.specs.declared.weight.Weight
@@ -9,44 +9,30 @@ use Rattle.diagram.specs.declared.table.Table.{Table}
 use Rattle.diagram.specs.declared.diagram.Diagram.{Diagram}
 use Rattle.diagram.specs.Refusals.{Asked}
 use Rattle.diagram.specs.Shown.{records}
-use Rattle.diagram.specs.Store.{Kept, places_of}
-use Rattle.diagram.specs.Changes.{NodeCollected}
-use Rattle.diagram.specs.Calls.{Refused, TooLong, Made, Collected}
+use Rattle.diagram.specs.Store.{Kept, no_node}
+use Rattle.diagram.specs.Calls.{Made, Collected}
 use Rattle.diagram.specs.Histories.{Call, Reply, Entry, History}
 use Rattle.diagram.specs.RightAnswers.{RightAnswer}
 use Rattle.diagram.specs.Runs.{Run, next, Performs, AnswersRight}
-use Rattle.diagram.specs.Store.{RowPut}
+use Rattle.diagram.proofs.Standing.{kept_on, kept_more, collected_kept, collecting_refused}
 
 -- what is asked, and is so
 pub granted : {q refused rest : Type 0} → q → Asked q refused rest → rest
 granted x (inl y) = y.1
 granted x (inr y) = absurd (y.0 x)
 
-module _ {T : Type 0} {free : ℕ → Type 0} where
-  pub kept_same : {before after : List T} → after ≡ before → Kept free before after
-  kept_same e = record { places = λ j l other. ap (places_of j) e; tail = ap (drop 3200) e; as_long = ap length e }
-
-  pub kept_on : {a b c : List T} → Kept free a b → Kept free b c → Kept free a c
-  kept_on x y = record { places = λ j l other. y.places j l other ∙ x.places j l other; tail = y.tail ∙ x.tail; as_long = y.as_long ∙ x.as_long }
-
-  pub kept_more : {fewer : ℕ → Type 0} {before after : List T} → ((j : ℕ) → fewer j → free j) → Kept fewer before after → Kept free before after
-  kept_more more x = record { places = λ j l other. x.places j l (λ f. other (more j f)); tail = x.tail; as_long = x.as_long }
-
-  pub kept_or : {A rest q : Type 0} {t t' : Table} {s s' : List T} {r : Result A Refusal} {why : Refusal} → Asked q (Refused t s r t' s' why) rest → (rest → Kept free s s') → Kept free s s'
-  kept_or (inl x) after = after x.1
-  kept_or (inr x) after = kept_same x.1.store
-
 module _ {P W : Type 0} (kind : Performance.Ghosts P) (weights : Weight.Ghosts W) where
   abbrev Terms : Type 0
   Terms = List (Term P W)
 
-  -- collecting changes the places of its node alone
-  pub collected_kept : {t t' : Table} {s s' : Terms} (n k : ℕ) → k < n → (r : Result ℕ Refusal) → Collected kind weights t s k r t' s' → Kept (λ j. j < n) s s'
-  collected_kept {t} {t'} {s} {s'} n k below r x = kept_or x (λ x. kept_or x (λ x. kept_or x (λ x. kept_or x (λ x. kept_or x (λ x. at x.3)))))
-    where
-      at : {q : Type 0} {row : Terms} → Asked q (TooLong t s r t' s') ((r ≡ Ok (length row)) × NodeCollected t t' k (length row) × RowPut k row s s') → Kept (λ j. j < n) s s'
-      at (inl (short, x)) = kept_more (λ j e. subst (λ z. z < n) (sym e) below) x.2.others
-      at (inr (long, x)) = kept_more (λ j none. absurd none) x.store
+  -- what a collecting changes
+  module _ {t t' : Table} {s s' : Terms} (k : ℕ) (r : Result ℕ Refusal) (x : Collected kind weights t s k r t' s') where
+    pub refused_none : {why : Refusal} → r ≡ Err why → Kept no_node s s'
+    refused_none is = collecting_refused kind weights (subst (λ z. Collected kind weights t s k z t' s') is x)
+
+    -- the places of the nodes below k, and then those of node k
+    pub kept_next : {before : Terms} → Kept (λ j. j < k) before s → Kept (λ j. j < k + 1) before s'
+    kept_next kept = kept_on (kept_more (λ j l. omega (arith, l)) kept) (collected_kept kind weights r (omega arith) x)
 
   -- a diagram is made over 3,200 terms or more
   pub roomy_of : (d : Diagram P W) (s : Terms) → Made records s (Ok d) → 3200 ≤ length s

@@ -7,9 +7,12 @@ pub mod Drawn
 pub mod Reading
 pub mod Reports
 pub mod Analyses
+pub mod Left
+pub mod Counted
 pub mod Steps
 pub mod Pages
 pub mod Models
 pub mod Composed
 pub mod Listed
 pub mod Sizes
+pub mod Printed

@@ -1,5 +1,6 @@
 -- The models that a file may name by its first byte.
 use Rattle.std.specs.Prelude.{◌≡◌, ℕ, ◌≤◌, ◌⊎◌, List, [], ◌∷◌, ℤ, Result}
+use Rattle.kinds.specs.Capped.{top32}
 use Rattle.kinds.specs.contracts.flow.FlowPerformance.TheImpl.{ghosts as flow}
 use Rattle.kinds.specs.contracts.delay.DelayPerformance.TheImpl.{ghosts as delay}
 use Rattle.kinds.specs.contracts.fault_set.FaultSetPerformance.TheImpl.{ghosts as fault_set}
@@ -25,6 +26,7 @@ use Rattle.files.specs.Composed.{pair, or_out}
 use Rattle.files.specs.Faults.{answer_for_c}
 use Rattle.files.specs.Analyses.{AnalysedAs}
 use Rattle.files.specs.Reports.{Unreported}
+use Rattle.files.specs.Counted.{CountsTruly}
 
 -- the first byte names a model
 abbrev pub Listed : List ℕ → Type 0
@@ -47,10 +49,28 @@ module _ (out : List ℕ) (r : Result ℕ Fault) (out' : List ℕ) where
   AsListed (model ∷ rest) = AsModel model rest
   AsListed [] = ⊥
 
+module _ (r : Result ℕ Fault) (out : List ℕ) where
+  -- where the weights of the model are parts, the report counts truly
+  abbrev pub ModelCounts : ℕ → List ℕ → Type 0
+  ModelCounts model rest =
+      (model ≡ 1 → CountsTruly flow parts (one_word rate) (weight_word count) top32 rest r out)
+      × (model ≡ 2 → CountsTruly delay parts (one_word time) (weight_word count) top32 rest r out)
+      × (model ≡ 4 → CountsTruly first_fault parts (one_word fault) (weight_word count) top32 rest r out)
+      × (model ≡ 6 → CountsTruly (or_out flow) parts (word_or_out rate) (weight_word count) top32 rest r out)
+      × (model ≡ 7 → CountsTruly (or_out delay) parts (word_or_out time) (weight_word count) top32 rest r out)
+
+  abbrev pub ListedCounts : List ℕ → Type 0
+  ListedCounts (model ∷ rest) = ModelCounts model rest
+  ListedCounts [] = Unit {0}
+
 -- what a model file comes to
 abbrev pub Analysed : List ℕ → List ℕ → Result ℕ Fault → List ℕ → Type 0
 Analysed bytes out r out' = Asked (Listed bytes) (Unreported out r out' Model) (AsListed out r out' bytes)
 
--- the same, as C is answered
+-- whatever is analysed as a report of a file with parts counts truly
+abbrev pub ReportsCountTruly : Type 0
+ReportsCountTruly = (bytes out : List ℕ) (r : Result ℕ Fault) (out' : List ℕ) → Analysed bytes out r out' → ListedCounts r out' bytes
+
+-- what a model file comes to, as C is answered
 abbrev pub AnsweredForC : List ℕ → List ℕ → ℤ → List ℕ → Type 0
 AnsweredForC bytes out answer out' = (r : Result ℕ Fault) × Analysed bytes out r out' × (answer ≡ answer_for_c r)

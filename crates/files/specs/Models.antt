@@ -1,11 +1,10 @@
 -- What reading makes of a file: a diagram that these calls have drawn, and the demands.
-use Rattle.std.specs.Prelude.{◌≡◌, ℕ, ◌-◌, ◌<◌, ◌≤◌, List, length, get_or, flat_map, Result, Ok, Err, IsOkAnd}
+use Rattle.std.specs.Prelude.{◌≡◌, ℕ, ◌≤◌, List, length, flat_map, Result, Ok, Err, IsOkAnd}
 use Rattle.kinds.specs.declared.performance.Performance
 use Rattle.kinds.specs.declared.weight.Weight
 use Rattle.terms.specs.declared.term.Term.{Term}
 use Rattle.diagram.specs.declared.refusal.Refusal.TheVariants.{ShortStore}
 use Rattle.diagram.specs.Refusals.{Asked}
-use Rattle.diagram.specs.Store.{Kept}
 use Rattle.diagram.specs.Runs.{Run}
 use Rattle.files.specs.declared.value.FilePerformance
 use Rattle.files.specs.declared.value.FileWeight
@@ -14,12 +13,7 @@ use Rattle.files.specs.declared.fault.Fault.TheVariants.{Refused}
 use Rattle.files.specs.declared.model.Model.{Model}
 use Rattle.files.specs.Contents.{Contents, performance_bytes}
 use Rattle.files.specs.Drawn.{history_of}
-use Rattle.files.specs.Reading.{Counted, ContentsRead}
-
--- What is left of the store: all of it, if it is too short, or if the file does not say how many records it has; else what are not the
--- places of the file's nodes.
-abbrev pub StoreLeft : {T : Type 0} → List ℕ → List T → List T → Type 0
-StoreLeft bytes s s' = Asked (3200 ≤ length s) (s' ≡ s) (Asked (Counted bytes) (s' ≡ s) (Kept (λ j. j < get_or bytes 0 0 - 1) s s'))
+use Rattle.files.specs.Reading.{ContentsRead}
 
 module _ {P W : Type 0} (kind : Performance.Ghosts P) (weights : Weight.Ghosts W) (file_kind : FilePerformance.Ghosts P) (file_weights : FileWeight.Ghosts W) where
   abbrev Terms : Type 0

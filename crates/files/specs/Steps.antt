@@ -22,6 +22,8 @@ use Rattle.files.specs.Contents.{Contents, performance_bytes}
 use Rattle.files.specs.Drawn.{call_of, history_of, drawn, TakesAll}
 use Rattle.files.specs.Reading.{LastRecord, NodeRecord, RecordsRead}
 use Rattle.files.specs.Analyses.{AllCollected}
+use Rattle.files.specs.Faults.{record_of}
+use Rattle.files.specs.Left.{RowsLeft, FirstNodes, LeftAtFault}
 use Rattle.files.specs.Reports.{longest_report, demand_line, state_line, report_of, Put}
 use Rattle.files.specs.Pages.{Wrote}
 
@@ -65,11 +67,13 @@ module _ {P W : Type 0} (kind : Performance.Ghosts P) (weights : Weight.Ghosts W
           (λ m rest. (reply : Reply P W) × Performs kind weights (call_of m) t s reply t' s' × PassedOn k rest reply)
 
     -- so many records, from the first on, are given to a new diagram; what is left tells the rest of the answer
-    abbrev pub NodesDrawn : ℕ → ℕ → List ℕ → Result X Fault → Diagram P W → Terms → Type 0
-    NodesDrawn lent n bytes (Ok x) d s =
-        (ms : List (Making P W)) × (length ms ≡ n) × TakesAll kind weights ms × Run kind weights (history_of lent ms) d s ×
-        ((answer : Result (Contents P W) Fault) → RecordsRead kind weights file_kind file_weights 0 ms (shown x) answer → RecordsRead kind weights file_kind file_weights n [] bytes answer)
-    NodesDrawn lent n bytes (Err why) d s = RecordsRead kind weights file_kind file_weights n [] bytes (Err why)
+    abbrev pub NodesDrawn : Terms → ℕ → List ℕ → Result X Fault → Diagram P W → Terms → Type 0
+    NodesDrawn before n bytes (Ok x) d s =
+        (ms : List (Making P W)) × FirstNodes kind weights file_kind file_weights bytes n ms × RowsLeft kind weights 0 ms before s
+        × Run kind weights (history_of (length before) ms) d s
+        × ((answer : Result (Contents P W) Fault) → RecordsRead kind weights file_kind file_weights 0 ms (shown x) answer → RecordsRead kind weights file_kind file_weights n [] bytes answer)
+    NodesDrawn before n bytes (Err why) d s =
+        RecordsRead kind weights file_kind file_weights n [] bytes (Err why) × LeftAtFault kind weights file_kind file_weights n bytes before why s
 
   -- after these calls the nodes are as after those, and all of them answer
   pub record AllAnswer (h drawn : History P W) : Type 0 where
@@ -85,6 +89,12 @@ module _ {P W : Type 0} (kind : Performance.Ghosts P) (weights : Weight.Ghosts W
       (lent : ℕ) (ms : List (Making P W)) → length ms ≡ n → TakesAll kind weights ms → 3200 ≤ length s → Run kind weights (history_of lent ms) d s →
       AllCollected kind weights (drawn ms) (λ why. r ≡ Err why)
       ((r ≡ Ok tt) × (length s' ≡ length s) × (h : History P W) × Run kind weights h d' s' × AllAnswer h (drawn ms))
+
+  -- which rows that leaves: those of all the nodes, or of the parts and of the joined nodes before the one that is refused
+  abbrev pub NodesLeft : ℕ → Diagram P W → Terms → Terms → Type 0
+  NodesLeft n d s s' =
+      (lent : ℕ) (ms : List (Making P W)) → length ms ≡ n → TakesAll kind weights ms → 3200 ≤ length s → Run kind weights (history_of lent ms) d s →
+      AllCollected kind weights (drawn ms) (λ why. RowsLeft kind weights (record_of why) ms s s') (RowsLeft kind weights (length ms) ms s s')
 
   module _ (file_kind : FilePerformance.Ghosts P) (file_weights : FileWeight.Ghosts W) where
     -- the record at the front of the bytes is given to this diagram as node k, and a slice of the rest is handed on

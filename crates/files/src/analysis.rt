@@ -1,8 +1,9 @@
 // A model file, analysed.
 ghost use Rattle.std.specs.Prelude.{◌≤◌, IfOk};
 ghost use Rattle.files.specs.Analyses.{AnalysedAs, AnalysedOver};
-ghost use Rattle.files.specs.Models.{StoreLeft};
-ghost use Rattle.files.specs.Listed.{Analysed};
+ghost use Rattle.files.specs.Counted.{TrueCounts};
+ghost use Rattle.files.specs.Left.{LeftByAnalysing};
+ghost use Rattle.files.specs.Listed.{Analysed, ListedCounts};
 ghost use Rattle.files.specs.Reports.{longest_report};
 ghost use Rattle.files.specs.Sizes.{StoreFits};
 
@@ -23,6 +24,7 @@ pub const LONGEST_REPORT: usize = 3328;
 // Reads a model file, works out its nodes, and puts the report on the last one first in the output. Answers the report's length.
 pub fn analyse(model: &[u8], output: &mut [u8]) -> Result<usize, Fault>
     ensures analysed { Analysed model.now output.old result output.new }
+    ensures counted { ListedCounts result output.new model.now }
     ensures short { IfOk result (λ n. n ≤ longest_report) }
 {
     let [number, rest @ ..] = model else {
@@ -40,8 +42,10 @@ pub fn analyse(model: &[u8], output: &mut [u8]) -> Result<usize, Fault>
     }
 }
 
-// The same for a kind and a weight of one's own, from the file's second byte on. The diagram works in the store that is lent; the states
-// of a record are put into the room first.
+// The same for a kind and a weight of one's own, from the file's second byte on. The diagram works
+// in the store that is lent, which has the rows of the nodes afterwards; at a fault, of those that
+// were made and collected before it. The states of a record are put into the room first, and the
+// room is free afterwards.
 pub fn analyse_as<P: Performance + FilePerformance, W: Weight + FileWeight>(
     bytes: &[u8],
     store: &mut [Term<P, W>],
@@ -49,20 +53,16 @@ pub fn analyse_as<P: Performance + FilePerformance, W: Weight + FileWeight>(
     output: &mut [u8],
 ) -> Result<usize, Fault>
     ensures analysed { AnalysedOver P.Performance W.Weight P.FilePerformance W.FileWeight output.old result output.new store.old bytes.now }
-    ensures left { StoreLeft bytes.now store.old store.new }
+    ensures counted { TrueCounts P.Performance W.Weight P.FilePerformance W.FileWeight bytes.now result output.new }
+    ensures left { LeftByAnalysing P.Performance W.Weight P.FilePerformance W.FileWeight bytes.now store.old store.new }
     ensures short { IfOk result (λ n. n ≤ longest_report) }
 {
     // The diagram is made in `read`; what holds of every run of its calls is said here.
     runs_are_right::<P, W>();
     let mut model = read(bytes, store, room)?;
     collect_nodes(model.nodes, &mut model.diagram, store)?;
-    report(
-        &model.diagram,
-        store,
-        model.nodes - 1,
-        model.demands,
-        output,
-    )
+    let last = model.nodes - 1;
+    report(&model.diagram, store, last, model.demands, output)
 }
 
 // The same in arrays of its own, which begin with a term that is never looked at.
@@ -73,6 +73,7 @@ fn analyse_apart<P: Performance + FilePerformance, W: Weight + FileWeight>(
 ) -> Result<usize, Fault>
     requires { StoreFits P.row W.row }
     ensures analysed { AnalysedAs P.Performance W.Weight P.FilePerformance W.FileWeight output.old result output.new bytes.now }
+    ensures counted { TrueCounts P.Performance W.Weight P.FilePerformance W.FileWeight bytes.now result output.new }
     ensures short { IfOk result (λ n. n ≤ longest_report) }
 {
     let term = Term {

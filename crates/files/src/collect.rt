@@ -1,8 +1,6 @@
 // Every joined node is collected, by rising number.
-ghost use Rattle.std.specs.Prelude.{◌<◌};
-ghost use Rattle.diagram.specs.Store.{Kept};
 ghost use Rattle.diagram.specs.Runs.{AnswersRight};
-ghost use Rattle.files.specs.Steps.{NodesCollected};
+ghost use Rattle.files.specs.Steps.{NodesCollected, NodesLeft};
 
 use crate::fault::Fault;
 use diagram::diagram::Diagram;
@@ -18,7 +16,7 @@ pub(crate) fn collect_nodes<P: Performance, W: Weight>(
     store: &mut [Term<P, W>],
 ) -> Result<(), Fault>
     requires { AnswersRight P.Performance W.Weight }
-    ensures kept { Kept (λ j. j < n) store.old store.new }
+    ensures left { NodesLeft P.Performance W.Weight n diagram.old store.old store.new }
     ensures collected { NodesCollected P.Performance W.Weight n diagram.old store.old result diagram.new store.new }
 {
     for k in 0..n {

@@ -1,5 +1,5 @@
 // The demands of a file: its last record.
-ghost use Rattle.std.specs.Prelude.{◌≡◌, ◌++◌, List, length, flat_map, IfSome, IfNone, Result, Ok, Err};
+ghost use Rattle.std.specs.Prelude.{◌≡◌, ◌↔◌, ◌≤◌, ◌++◌, IsTrue, List, length, flat_map, IfSome, IfNone, Result, Ok, Err};
 ghost use Rattle.files.specs.Contents.{performance_bytes};
 ghost use Rattle.files.specs.Steps.{ManyAhead, DemandsHandedOn};
 
@@ -33,7 +33,7 @@ pub(crate) fn demands<'a, P: FilePerformance>(k: u8, bytes: &'a [u8]) -> Result<
         return Err(Fault::Letter(k));
     }
     let count = usize::from(*count);
-    if !(1..=16).contains(&count) || body.len() < 8 * count {
+    if !may_be_demands(count) || body.len() < 8 * count {
         return Err(Fault::Body(k));
     }
     let Some(rest) = after_performances::<P>(count, body) else {
@@ -43,4 +43,11 @@ pub(crate) fn demands<'a, P: FilePerformance>(k: u8, bytes: &'a [u8]) -> Result<
         return Err(Fault::LeftOver);
     }
     Ok(body)
+}
+
+// May a file have so many demands?
+fn may_be_demands(n: usize) -> bool
+    ensures { IsTrue result ↔ ((1 ≤ n) × (n ≤ 16)) }
+{
+    (1..=16).contains(&n)
 }

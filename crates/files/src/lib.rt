@@ -16,5 +16,6 @@ mod report;
 mod states;
 #[cfg(test)]
 mod tests;
+pub mod theorems;
 pub mod value;
 mod values;

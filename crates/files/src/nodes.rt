@@ -1,9 +1,8 @@
 // The records that make nodes, one after the other.
-ghost use Rattle.std.specs.Prelude.{◌<◌, length, Ok};
+ghost use Rattle.std.specs.Prelude.{Ok};
 ghost use Rattle.diagram.specs.Calls.{Made};
 ghost use Rattle.diagram.specs.Runs.{AnswersRight};
 ghost use Rattle.diagram.specs.Shown.{records};
-ghost use Rattle.diagram.specs.Store.{Kept};
 ghost use Rattle.files.specs.Steps.{NodesDrawn};
 
 use crate::fault::Fault;
@@ -24,8 +23,7 @@ pub(crate) fn draw_nodes<'a, P: Performance + FilePerformance, W: Weight + FileW
 ) -> Result<&'a [u8], Fault>
     requires made { Made records store.now (Ok diagram.now) }
     requires right { AnswersRight P.Performance W.Weight }
-    ensures kept { Kept (λ j. j < n) store.old store.new }
-    ensures drawn { NodesDrawn P.Performance W.Weight P.FilePerformance W.FileWeight (λ x. x.now) (length store.old) n bytes.now result diagram.new store.new }
+    ensures drawn { NodesDrawn P.Performance W.Weight P.FilePerformance W.FileWeight (λ x. x.now) store.old n bytes.now result diagram.new store.new }
 {
     let mut rest = bytes;
     for k in 0..n {

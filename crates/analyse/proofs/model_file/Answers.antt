@@ -1,4 +1,4 @@
-use Rattle.analyse.specs.Printed.{looked_at}
+use Rattle.files.specs.Printed.{looked_at}
 use Rattle.analyse.proofs.Input.{front_read}
 use Rattle.analyse.proofs.model_file.Goals as goal
 

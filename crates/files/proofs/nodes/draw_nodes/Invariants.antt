@@ -1,7 +1,6 @@
-use Rattle.std.proofs.Common.{◌<◌, length}
-use Rattle.diagram.specs.Store.{Kept}
+-- The records before k have made their nodes.
 use Rattle.files.proofs.ManyNodes.{SoFar}
 use Rattle.files.proofs.nodes.draw_nodes.Given as goal
 
 abbrev pub invariant-loop-k : goal.invariant-loop-k
-invariant-loop-k g l = SoFar g.P.Performance g.W.Weight g.P.FilePerformance g.W.FileWeight (length l.fn.store) l.fn.n l.fn.bytes l.k l.rest l.diagram l.store × Kept (λ j. j < l.fn.n) l.fn.store l.store
+invariant-loop-k g l = SoFar g.P.Performance g.W.Weight g.P.FilePerformance g.W.FileWeight l.fn.store l.fn.n l.fn.bytes l.k l.rest l.diagram l.store

@@ -1,4 +1,4 @@
--- What the program writes.
+-- What a model file comes to, as text: its report, or the line of its fault; and what the program `analyse` writes of it.
 use Rattle.std.specs.Prelude.{ℕ, List, [], ◌∷◌, ◌++◌, length, take, Option, Result, Ok, Err, ◌≡◌}
 use Rattle.std.specs.Io.KnownBytes.{Appends}
 use Rattle.files.specs.declared.fault.Fault.{Fault}
