@@ -10,6 +10,7 @@ use Rattle.terms.specs.Sums.{total_of, met_of}
 use Rattle.terms.specs.Enumeration.{enumeration}
 use Rattle.terms.specs.Laws.{SummingKeeps}
 use Rattle.diagram.specs.declared.refusal.Refusal.{Refusal}
+use Rattle.diagram.specs.declared.refusal.Refusal.TheVariants.{WrongStates}
 use Rattle.diagram.specs.declared.node.Form.TheVariants.{Joined}
 use Rattle.diagram.specs.declared.diagram.Diagram.{Diagram}
 use Rattle.diagram.specs.Refusals.{Asked}
@@ -25,7 +26,7 @@ use Rattle.diagram.specs.Runs.{told, Performs, Run, next, AnswersRight}
 pub yes : {q refused rest : Type 0} → q → rest → Asked q refused rest
 yes q r = inl (q, r)
 
-granted : {q refused rest : Type 0} → q → Asked q refused rest → rest
+pub granted : {q refused rest : Type 0} → q → Asked q refused rest → rest
 granted q (inl x) = x.1
 granted q (inr x) = absurd (x.0 q)
 
@@ -122,6 +123,14 @@ module _ {P W : Type 0} (kind : Performance.Ghosts P) (weights : Weight.Ghosts W
         let said = answered (adding states) d' s' (Ok (number k)) (Ok k, x, refl) in
         let so = given (given said.0).1 in
         (so.0, ap number_in so.1, subst (λ z. Run kind weights (entry (adding states) z ∷ h) d' s') so.1 said.1)
+
+    -- while numbers are left, a part is refused for its states alone
+    pub states_refused : (states : Terms) (d' : Diagram P W) (s' : Terms) (why : Refusal) → made h < 48 → Added kind weights (records d) s states (Err why) (records d') s' → ¬ EnoughStates (length states)
+    states_refused states d' s' why left x = none (granted left (answered (adding states) d' s' (Err why) (Err why, x, refl)).0)
+      where
+        none : Asked (EnoughStates (length states)) (◌≡◌ {A = Reply P W} (Err why) (Err WrongStates)) (◌≡◌ {A = Reply P W} (Err why) (Ok (number (made h)))) → ¬ EnoughStates (length states)
+        none (inl y) = absurd (ok_not_err (sym y.1))
+        none (inr y) = y.0
 
     -- a joining of two unused nodes is taken
     pub after_joining : (way : Way) (a b : ℕ) → made h < 48 → a < made h → b < made h → a ≢ b → Unused h a → Unused h b →

@@ -50,10 +50,13 @@ few ts (t ∷ us) r = omega (arith, ascending t us r.row)
 abbrev lines : Drawing
 lines = joined Parallel (more (one (part 0)) (part 1))
 
+pub all_lines : OfPart grades batches → OfMore grades batches → (states : ℕ → Terms) → enumeration grades batches states lines ≡ combinations batches higher (states 0) (states 1)
+all_lines of_part of_more states = of_more states Parallel (one (part 0)) (part 1) (refl, tt) ∙ (λ i. combinations batches higher (of_part states 0 i) (of_part states 1 i))
+
 pub all_products : OfPart grades batches → OfMore grades batches → (states : ℕ → Terms) →
     enumeration grades batches states (joined Series (more (one lines) (part 2))) ≡ products (states 0) (states 1) (states 2)
 all_products of_part of_more states =
-    let of_lines = of_more states Parallel (one (part 0)) (part 1) (refl, tt) ∙ (λ i. combinations batches higher (of_part states 0 i) (of_part states 1 i)) in
+    let of_lines = all_lines of_part of_more states in
     of_more states Series (one lines) (part 2) (refl, (refl, tt)) ∙ (λ i. combinations batches lower (of_lines i) (of_part states 2 i))
 
 -- what was called, and that no node names these

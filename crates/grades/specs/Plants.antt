@@ -1,8 +1,9 @@
 -- The plant in a diagram: how it is drawn, and how it is worked out.
-use Rattle.std.specs.Prelude.{◌≡◌, ℕ, List, [], ◌∷◌, map, Ok, Err}
+use Rattle.std.specs.Prelude.{◌≡◌, ℕ, ◌≤◌, ◌⊎◌, List, [], ◌∷◌, length, map, Ok, Err}
 use Rattle.terms.specs.declared.term.Term.{Term}
 use Rattle.diagram.specs.declared.refusal.Refusal.{Refusal}
 use Rattle.diagram.specs.declared.table.Table.{Table}
+use Rattle.diagram.specs.Refusals.{Asked}
 use Rattle.diagram.specs.Calls.{Restated, Collected}
 use Rattle.diagram.specs.Runs.{Run}
 use Rattle.diagram.specs.Shown.{records}
@@ -15,6 +16,7 @@ use Rattle.grades.specs.declared.plant.Plant.{Plant}
 use Rattle.grades.specs.declared.plant.States.{States}
 use Rattle.grades.specs.Batched.{how_many}
 use Rattle.grades.specs.Grades.{grade_number}
+use Rattle.grades.specs.Shares.{RowsOfShare}
 use Rattle.grades.specs.Steps.{nodes_made}
 
 -- states by their numbers: a grade, and how many batches
@@ -35,11 +37,21 @@ pub record Stands (parts : States) (lent : ℕ) (store : List (Term Grade Batche
   pub whole : p.whole ≡ 4
   pub run : Run grades batches (history_of lent (nodes_made parts.first parts.second parts.finishing)) p.diagram store
 
+-- what is left of the store: all of it, if it is too short, or the rows of the parts
+abbrev pub LeftByDrawing : States → List (Term Grade Batches) → List (Term Grade Batches) → Type 0
+LeftByDrawing p s s' = Asked (3200 ≤ length s) (s' ≡ s) (RowsOfShare p.first p.second p.finishing 3 s s')
+
 -- two nodes are collected, one after the other
 abbrev pub BothCollected : Table → List (Term Grade Batches) → ℕ → ℕ → Table → List (Term Grade Batches) → Type 0
 BothCollected t s first second t' s' =
     (between : Table) × (left : List (Term Grade Batches)) × (m : ℕ) × (n : ℕ) ×
     Collected grades batches t s first (Ok m) between left × Collected grades batches between left second (Ok n) t' s'
+
+-- the first of two nodes is refused, or the second once the first is collected
+abbrev pub OneRefused : Table → List (Term Grade Batches) → ℕ → ℕ → Refusal → Table → List (Term Grade Batches) → Type 0
+OneRefused t s first second why t' s' =
+    Collected grades batches t s first (Err why) t' s'
+    ⊎ ((between : Table) × (left : List (Term Grade Batches)) × (m : ℕ) × Collected grades batches t s first (Ok m) between left × Collected grades batches between left second (Err why) t' s')
 
 -- the first line has new states; a collecting of the whole is refused then, and after it the lines and the whole are collected
 pub record Retooled (p : Plant) (s : List (Term Grade Batches)) (p' : Plant) (s' : List (Term Grade Batches)) : Type 0 where

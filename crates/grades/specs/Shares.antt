@@ -1,12 +1,14 @@
--- A plant of two lines in parallel and then a finishing step: what of its products is at least of a grade.
-use Rattle.std.specs.Prelude.{◌≡◌, ℕ, ◌≤◌, List, length, Result, Ok, Err}
+-- A plant of two lines in parallel and then a finishing step: what of its products is at least of a grade, and what is left of the store.
+use Rattle.std.specs.Prelude.{◌≡◌, ℕ, ◌<◌, ◌≤◌, List, length, Result, Ok, Err}
 use Rattle.terms.specs.declared.term.Term.{Term}
 use Rattle.terms.specs.Combinations.{combinations}
+use Rattle.terms.specs.Enumeration.{but}
 use Rattle.terms.specs.Sums.{total_of, met_of}
 use Rattle.diagram.specs.declared.refusal.Refusal.{Refusal}
 use Rattle.diagram.specs.declared.refusal.Refusal.TheVariants.{ShortStore, WrongStates}
 use Rattle.diagram.specs.Refusals.{Asked}
 use Rattle.diagram.specs.Nodes.{EnoughStates}
+use Rattle.diagram.specs.Standing.{RowsStand}
 use Rattle.grades.specs.contracts.grading.GradePerformance.TheImpl.{ghosts as grades}
 use Rattle.grades.specs.contracts.batching.BatchesWeight.TheImpl.{ghosts as batches}
 use Rattle.grades.specs.declared.batches.Batches.{Batches}
@@ -27,3 +29,19 @@ module _ (first second finishing : List (Term Grade Batches)) where
       (Asked (EnoughStates (length second)) (r ≡ Err WrongStates)
       (Asked (EnoughStates (length finishing)) (r ≡ Err WrongStates)
       (r ≡ Ok (met_of grades batches grade products, total_of batches products)))))
+
+  -- what each node is made of: the three parts, the lines in parallel, and the whole
+  abbrev pub terms_of_node : ℕ → List (Term Grade Batches)
+  terms_of_node = but 0 first (but 1 second (but 2 finishing (but 3 (combinations batches higher first second) (λ _. products))))
+
+  -- The first n of these nodes have their rows in their places. Nothing else has changed but the working rows and the rest of these places.
+  abbrev pub RowsOfShare : ℕ → List (Term Grade Batches) → List (Term Grade Batches) → Type 0
+  RowsOfShare n = RowsStand grades batches (λ k. k < n) terms_of_node
+
+  -- what is left of the store, question by question: the rows of the parts that were added before the first no, or those of all five nodes
+  abbrev pub LeftOfShare : List (Term Grade Batches) → List (Term Grade Batches) → Type 0
+  LeftOfShare s s' =
+      Asked (3200 ≤ length s) (s' ≡ s)
+      (Asked (EnoughStates (length first)) (s' ≡ s)
+      (Asked (EnoughStates (length second)) (RowsOfShare 1 s s')
+      (Asked (EnoughStates (length finishing)) (RowsOfShare 2 s s') (RowsOfShare 5 s s'))))

@@ -16,6 +16,7 @@ use Rattle.grades.specs.declared.batches.Batches.{Batches}
 use Rattle.grades.specs.declared.grade.Grade.{Grade}
 use Rattle.grades.specs.declared.share.Joined.{Joined}
 use Rattle.grades.specs.declared.share.Nodes.{Nodes}
+use Rattle.grades.specs.Shares.{RowsOfShare}
 
 -- the parts' numbers, as they are made
 abbrev pub in_order : Nodes
@@ -40,6 +41,13 @@ module _ (first second finishing : List (Term Grade Batches)) where
   -- the calls so far, the newest first, once both joined nodes are collected
   abbrev pub worked_out : ℕ → ℕ → ℕ → History Grade Batches
   worked_out lent m n = collected lent 4 n ∷ collected lent 3 m ∷ history_of lent nodes_made
+
+  -- what is left of a store that is long enough, once the parts are added: the rows of those before the first that is refused
+  abbrev pub LeftByAdding : List (Term Grade Batches) → List (Term Grade Batches) → Type 0
+  LeftByAdding s s' =
+      Asked (EnoughStates (length first)) (s' ≡ s)
+      (Asked (EnoughStates (length second)) (RowsOfShare first second finishing 1 s s')
+      (Asked (EnoughStates (length finishing)) (RowsOfShare first second finishing 2 s s') (RowsOfShare first second finishing 3 s s')))
 
   module _ (lent : ℕ) (d : Diagram Grade Batches) (s : List (Term Grade Batches)) where
     -- the parts are added, or the first that has too few states or too many is refused

@@ -1,5 +1,6 @@
 // A plant read from a model file of this kind.
-ghost use Rattle.std.specs.Prelude.{◌≡◌, IfOk};
+ghost use Rattle.std.specs.Prelude.{◌≡◌, ◌<◌, IfOk};
+ghost use Rattle.diagram.specs.Store.{Kept};
 ghost use Rattle.grades.specs.Files.{IsModelFile, AllCollected};
 
 use crate::answers::{show, told};
@@ -66,6 +67,7 @@ fn show_file(rt: &HostRuntime, bytes: &[u8]) -> anyhow::Result<()>
 // Works out the joined nodes, by rising number.
 fn collect_all(model: &mut Model<Grade, Batches>, store: &mut [State]) -> anyhow::Result<()>
     ensures collected { IfOk result (λ _. AllCollected model.old.nodes model.old.diagram store.old model.new.diagram store.new) }
+    ensures kept { Kept (λ k. k < model.old.nodes) store.old store.new }
     ensures nodes { model.new.nodes ≡ model.old.nodes }
     ensures demands { model.new.demands ≡ model.old.demands }
 {

@@ -1,7 +1,7 @@
 // A plant drawn by calls: two lines in parallel, and then a finishing step.
-ghost use Rattle.std.specs.Prelude.{◌≡◌, length, IfOk};
+ghost use Rattle.std.specs.Prelude.{◌≡◌, length, IfOk, IfErr};
 ghost use Rattle.diagram.specs.Shown.{records};
-ghost use Rattle.grades.specs.Plants.{GivenStates, Stands, BothCollected, Retooled};
+ghost use Rattle.grades.specs.Plants.{GivenStates, Stands, LeftByDrawing, BothCollected, OneRefused, Retooled};
 
 use crate::answers::{refused, show, told};
 use crate::batches::Batches;
@@ -42,7 +42,8 @@ struct Plant {
 
 impl Plant {
     fn draw(parts: &States, store: &mut [State]) -> Result<Plant, Refusal>
-        ensures { IfOk result (Stands parts.now (length store.old) store.new) }
+        ensures stands { IfOk result (Stands parts.now (length store.old) store.new) }
+        ensures left { LeftByDrawing parts.now store.old store.new }
     {
         let mut diagram = Diagram::new(store)?;
         let nodes = add_parts(
@@ -64,6 +65,7 @@ impl Plant {
     // Works out the lines, and then the whole.
     fn collect(&mut self, store: &mut [State]) -> Result<(), Refusal>
         ensures collected { IfOk result (λ _. BothCollected (records self.old.diagram) store.old self.old.lines self.old.whole (records self.new.diagram) store.new) }
+        ensures refused { IfErr result (λ why. OneRefused (records self.old.diagram) store.old self.old.lines self.old.whole why (records self.new.diagram) store.new) }
         ensures first { self.new.first ≡ self.old.first }
         ensures lines { self.new.lines ≡ self.old.lines }
         ensures whole { self.new.whole ≡ self.old.whole }

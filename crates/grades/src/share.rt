@@ -7,8 +7,8 @@ ghost use Rattle.diagram.specs.Shown.{records};
 ghost use Rattle.files.specs.Drawn.{history_of};
 ghost use Rattle.grades.specs.declared.batches.Batches.{Batches};
 ghost use Rattle.grades.specs.declared.grade.Grade.{Grade};
-ghost use Rattle.grades.specs.Shares.{ShareOf};
-ghost use Rattle.grades.specs.Steps.{in_order, parts_made, PartsAdded, PartsJoined, WorkedOut};
+ghost use Rattle.grades.specs.Shares.{ShareOf, LeftOfShare, RowsOfShare};
+ghost use Rattle.grades.specs.Steps.{in_order, parts_made, PartsAdded, PartsJoined, WorkedOut, LeftByAdding};
 
 use crate::batches::Batches;
 use crate::grade::Grade;
@@ -46,7 +46,8 @@ pub fn share_of_grade(
     grade: Grade,
     store: &mut [State],
 ) -> Result<(Batches, Batches), Refusal>
-    ensures { ShareOf first.now second.now finishing.now grade (length store.old) result }
+    ensures answer { ShareOf first.now second.now finishing.now grade (length store.old) result }
+    ensures left { LeftOfShare first.now second.now finishing.now store.old store.new }
 {
     combinations_go_child_by_child::<Grade, Batches>();
     summing_keeps_distributions::<Grade, Batches>();
@@ -66,7 +67,8 @@ pub(crate) fn add_parts(
 ) -> Result<Nodes, Refusal>
     requires new { Made records store.old (Ok plant.old) }
     requires right { AnswersRight ⟦<Grade as Performance>⟧ ⟦<Batches as Weight>⟧ }
-    ensures { PartsAdded first.now second.now finishing.now (length store.old) plant.new store.new result }
+    ensures added { PartsAdded first.now second.now finishing.now (length store.old) plant.new store.new result }
+    ensures left { LeftByAdding first.now second.now finishing.now store.old store.new }
 {
     Ok(Nodes {
         first: plant.add(store, first)?,
@@ -100,7 +102,8 @@ fn work_out(
     requires roomy { 3200 ≤ length store.old }
     requires right { AnswersRight ⟦<Grade as Performance>⟧ ⟦<Batches as Weight>⟧ }
     requires parts { parts ≡ in_order }
-    ensures { (first second finishing : List (Term Grade Batches)) → Run ⟦<Grade as Performance>⟧ ⟦<Batches as Weight>⟧ (history_of (length store.old) (parts_made first second finishing)) plant.old store.old → WorkedOut first second finishing (length store.old) plant.new store.new result }
+    ensures worked { (first second finishing : List (Term Grade Batches)) → Run ⟦<Grade as Performance>⟧ ⟦<Batches as Weight>⟧ (history_of (length store.old) (parts_made first second finishing)) plant.old store.old → WorkedOut first second finishing (length store.old) plant.new store.new result }
+    ensures left { (first second finishing : List (Term Grade Batches)) → Run ⟦<Grade as Performance>⟧ ⟦<Batches as Weight>⟧ (history_of (length store.old) (parts_made first second finishing)) plant.old store.old → RowsOfShare first second finishing 5 store.old store.new }
 {
     let joined = join_parts(plant, parts, store)?;
     plant.collect(store, joined.lines)?;

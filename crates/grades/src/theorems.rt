@@ -2,6 +2,10 @@
 ghost use Rattle.grades.specs.Batched.{top16, how_many};
 ghost use Rattle.grades.specs.Bounded.{NumbersTo};
 ghost use Rattle.grades.specs.Grades.{grade_number};
+ghost use Rattle.kinds.specs.Counting.{CountsTo};
+
+use crate::batches::Batches;
+use kinds::weight::Weight;
 
 // The grades are the numbers 0 to 9: every one of them, and no other.
 pub fn grades_are_ten()
@@ -11,4 +15,10 @@ pub fn grades_are_ten()
 // Batches are the numbers of 16 bits: every one of them, and no other.
 pub fn batches_have_16_bits()
     ensures { NumbersTo top16 how_many }
+{}
+
+// Batches are told by their numbers, and count up to the top: so what is said of stopped weights is
+// said of them.
+pub fn batches_count_to_the_top()
+    ensures { CountsTo top16 ⟦<Batches as Weight>⟧ how_many }
 {}

@@ -39,6 +39,26 @@ alike_same (x ∷ xs) (y ∷ ys) h =
 pub row_by_computing : (ts r : List (Term Flow Parts)) → Alike (canon flow_kind.ghosts parts_weight.ghosts ts) r → HasRow ts r
 row_by_computing ts r h = subst (HasRow ts) (alike_same _ r h) (canon_row flow_laws parts_laws ts)
 
+-- the numbers of a list, one after the other
+abbrev numbers : List (Term Flow Parts) → List ℕ
+numbers [] = []
+numbers (t ∷ ts) = t.performance.bits ∷ t.weight.bits ∷ numbers ts
+
+numbers_same : (xs ys : List (Term Flow Parts)) → numbers xs ≡ numbers ys → xs ≡ ys
+numbers_same [] [] h = refl
+numbers_same [] (y ∷ ys) h = let none : ⊥ = cc in absurd none
+numbers_same (x ∷ xs) [] h = let none : ⊥ = cc in absurd none
+numbers_same (x ∷ xs) (y ∷ ys) h =
+    let p : x.performance.bits ≡ y.performance.bits = cc in
+    let w : x.weight.bits ≡ y.weight.bits = cc in
+    let rest : numbers xs ≡ numbers ys = cc in
+    let same : x ≡ y = λ i. record { performance = word_same x.performance y.performance p i; weight = word_same x.weight y.weight w i } in
+    λ i. same i ∷ numbers_same xs ys rest i
+
+-- a long row, by its numbers
+pub row_by_numbers : (ts r : List (Term Flow Parts)) → numbers (canon flow_kind.ghosts parts_weight.ghosts ts) ≡ numbers r → HasRow ts r
+row_by_numbers ts r h = subst (HasRow ts) (numbers_same _ r h) (canon_row flow_laws parts_laws ts)
+
 -- the pumps exchanged, then what stands in series exchanged
 pub redrawn_same : ReadSame flow_kind.ghosts parts_weight.ghosts states drawn states redrawn
 redrawn_same =

@@ -1,5 +1,5 @@
 -- A run of a diagram goes on, call by call: what its caller knows from the promise over all runs.
-use Rattle.std.proofs.Common.{◌≡◌, ℕ, ◌<◌, ◌≤◌, List, ◌∷◌, length, get_or, length-take, length-drop, Result, Ok, Err, is_ok, sym, ◌∙◌, ap, refl, subst, inl, inr, arith}
+use Rattle.std.proofs.Common.{◌≡◌, ◌≢◌, ℕ, zero, suc, ◌<◌, ◌≤◌, true, false, cond, ◌==◌, List, [], ◌∷◌, All, AllPairs, Contains, Some, length, get_or, length-take, length-drop, Result, Ok, Err, is_ok, sym, ◌∙◌, ap, refl, subst, inl, inr, arith}
 use Rattle.std.proofs.lemmas.Bool.{true≢false}
 use Rattle.std.proofs.lemmas.List.{same_lists, get_or_default}
 use Rattle.kinds.specs.declared.performance.Performance
@@ -18,7 +18,7 @@ use Rattle.diagram.specs.Records.{status_at, size_at}
 use Rattle.diagram.specs.Store.{row_at, RowPut}
 use Rattle.diagram.specs.Changes.{NodeCollected}
 use Rattle.diagram.specs.Calls.{Refused, TooLong, Collected}
-use Rattle.diagram.specs.Histories.{Question, size, term, Call, asking, number, one_term, Reply, Entry, History, made, Answers}
+use Rattle.diagram.specs.Histories.{Question, size, term, Call, asking, number, one_term, Reply, Entry, History, Making, named_by, making_of, made, Unused, Answers}
 use Rattle.diagram.specs.RightAnswers.{RightAnswer, RowOfNode, Tells}
 use Rattle.diagram.specs.Runs.{Performs, Replies, Run, next, AnswersRight}
 
@@ -44,6 +44,31 @@ pub accepted : {A T q rest : Type 0} {t t' : Table} {s s' : List T} {why : Refus
 accepted (inl x) = x
 accepted (inr x) = absurd (ok_not_err x.1.answer)
 
+-- lists of two, of one and of none
+
+pub both_of : {a b : ℕ} (Q : ℕ → Type 0) → Q a → Q b → All Q (a ∷ b ∷ [])
+both_of Q x y zero d l = x
+both_of Q x y (suc zero) d l = y
+both_of Q x y (suc (suc k)) d l = absurd (omega (arith, l))
+
+pub apart : {a b : ℕ} → a ≢ b → AllPairs {X = ℕ} ◌≢◌ (a ∷ b ∷ [])
+apart n zero (suc zero) d l m = n
+apart n i (suc (suc j)) d l m = absurd (omega (arith, m))
+apart n (suc i) (suc zero) d l m = absurd (omega (arith, l))
+apart n i zero d l m = absurd (omega (arith, l))
+
+pub the_only : {X : Type 0} {x y : X} → Contains (x ∷ []) y → x ≡ y
+the_only (zero, l, e) = e
+the_only (suc k, l, e) = absurd (omega (arith, l))
+
+pub no_one : (c : ℕ) → ¬ Contains [] c
+no_one c x = omega (arith, x.1)
+
+pub neither : {a b c : ℕ} → a ≢ c → b ≢ c → ¬ Contains (a ∷ b ∷ []) c
+neither n m (zero, l, e) = n e
+neither n m (suc zero, l, e) = m e
+neither n m (suc (suc k), l, e) = omega (arith, l)
+
 -- node k is there and up to date, in a store that is long enough
 pub record Current {T : Type 0} (t : Table) (s : List T) (k : ℕ) : Type 0 where
   pub roomy : 3200 ≤ length s
@@ -55,6 +80,10 @@ module _ {P W : Type 0} where
   abbrev pub number_in : Reply P W → ℕ
   number_in (Ok (number k)) = k
   number_in _ = 0
+
+  -- a node that one call more does not name stays unused
+  pub unused_on : (h : History P W) (c k : ℕ) (m : Making P W) → Unused h c → ¬ Contains (named_by (Some m)) c → (n : ℕ) → ¬ Contains (named_by (cond (k == n) (Some m) (making_of h n))) c
+  unused_on h c k m before none n = elim (k == n) as (λ b. ¬ Contains (named_by (cond b (Some m) (making_of h n))) c) [ true ↦ none | false ↦ before n ]
 
   abbrev pub entry : Call P W → ℕ → Reply P W → Entry P W
   entry call lent reply = record { call = call; lent = lent; reply = reply }

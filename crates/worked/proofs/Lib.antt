@@ -6,3 +6,6 @@ pub mod Rows
 pub mod Texts
 pub mod Joining
 pub mod Overhauling
+pub mod PlantFile
+pub mod Collecting
+pub mod Same

@@ -28,7 +28,7 @@ module _ {P : Type 0} (kind : Performance.Ghosts P) (laws : Kind kind) (promise 
   abbrev Over : Diagram P Parts → Terms → ℕ → Result ℕ Refusal → Diagram P Parts → Terms → Type 0
   Over d s k r d' s' = Collected kind parts_weight.ghosts (records d) s k r (records d') s'
 
-  module _ (p : Plant P) (d : Drawn P) (s : Terms) (before : DrawnOf kind p d s) (new : Terms) where
+  module _ (p : Plant P) (d : Drawn P) (s : Terms) (before : DrawnOf kind p drawn d s) (new : Terms) where
     -- the row of all combinations, once the new states are accepted
     with_new : (h : History P Parts) → states_of h ≡ but 0 new (states_of before.calls) → drawing_of h ≡ drawing_of before.calls → (row : Terms) →
         RowOf kind parts_weight.ghosts (enumeration kind parts_weight.ghosts (states_of h) (drawing_of h 4)) row → RowOfDrawing kind (record p { pump_a = new }) drawn row

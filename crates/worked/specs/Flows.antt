@@ -1,5 +1,5 @@
 -- What the plant answers by what flows through it.
-use Rattle.std.specs.Prelude.{List, [], ◌∷◌, Result}
+use Rattle.std.specs.Prelude.{ℕ, List, [], ◌∷◌, Result, Ok, Err}
 use Rattle.kinds.specs.Named.{Flow, Parts}
 use Rattle.kinds.specs.Words.{capped_word}
 use Rattle.kinds.specs.contracts.flow.FlowPerformance.TheImpl as flow_kind
@@ -7,6 +7,8 @@ use Rattle.kinds.specs.contracts.parts.PartsWeight.TheImpl as parts_weight
 use Rattle.terms.specs.declared.term.Term.{Term}
 use Rattle.terms.specs.declared.term.Way.TheVariants.{Parallel}
 use Rattle.diagram.specs.declared.refusal.Refusal.{Refusal}
+use Rattle.diagram.specs.declared.table.Table.{Table}
+use Rattle.diagram.specs.Calls.{Restated, Collected}
 use Rattle.diagram.specs.Shown.{records}
 use Rattle.diagram.specs.Store.{row_at}
 use Rattle.worked.specs.declared.answers.Answers.{Answers}
@@ -14,7 +16,7 @@ use Rattle.worked.specs.declared.plant.Drawn.{Drawn}
 use Rattle.worked.specs.declared.plant.Plant.{Plant}
 use Rattle.worked.specs.Answering.{AnswersOf}
 use Rattle.worked.specs.Examples.{◌at◌}
-use Rattle.worked.specs.Plants.{RowOfDrawing, DrawnOf, drawn, redrawn}
+use Rattle.worked.specs.Plants.{RowOfDrawing, DrawnOf, BothCollected, drawn, redrawn}
 use Rattle.worked.specs.Two.{OfTwo}
 
 -- these are the row and the needs of this row
@@ -40,4 +42,16 @@ new_pump_a = 0 at 1 ∷ 5 at 9 ∷ []
 -- where the plant was drawn, its row is afterwards that of all the combinations of its parts, with the new pump A
 abbrev pub Overhauled : Drawn Flow → List (Term Flow Parts) → Drawn Flow → List (Term Flow Parts) → Type 0
 Overhauled d s d' s' =
-    (p : Plant Flow) → DrawnOf flow_kind.ghosts p d s → RowOfDrawing flow_kind.ghosts (record p { pump_a = new_pump_a }) drawn (row_at (records d'.diagram) s' d'.nodes.plant)
+    (p : Plant Flow) → DrawnOf flow_kind.ghosts p drawn d s → RowOfDrawing flow_kind.ghosts (record p { pump_a = new_pump_a }) drawn (row_at (records d'.diagram) s' d'.nodes.plant)
+
+-- the calls of an overhaul: pump A has new states; a collecting of the plant is refused then, and after it the pumps and the plant are collected
+pub record OverhaulCalls (d : Drawn Flow) (s : List (Term Flow Parts)) (d' : Drawn Flow) (s' : List (Term Flow Parts)) : Type 0 where
+  pub n : ℕ
+  pub stale : Table
+  pub left : List (Term Flow Parts)
+  pub restated : Restated flow_kind.ghosts parts_weight.ghosts (records d.diagram) s d.nodes.pump_a new_pump_a (Ok n) stale left
+  pub why : Refusal
+  pub as_stale : Table
+  pub kept : List (Term Flow Parts)
+  pub early : Collected flow_kind.ghosts parts_weight.ghosts stale left d.nodes.plant (Err why) as_stale kept
+  pub again : BothCollected flow_kind.ghosts as_stale kept d.nodes.pumps d.nodes.plant (records d'.diagram) s'

@@ -1,5 +1,5 @@
 -- The plant as drawings, and what is worked out for it.
-use Rattle.std.specs.Prelude.{◌≡◌, ℕ, List, Ok}
+use Rattle.std.specs.Prelude.{◌≡◌, ℕ, ◌<◌, ◌≤◌, ◌⊎◌, List, length, Ok, Err}
 use Rattle.kinds.specs.Named.{Parts}
 use Rattle.kinds.specs.declared.performance.Performance
 use Rattle.kinds.specs.contracts.parts.PartsWeight.TheImpl as parts_weight
@@ -8,12 +8,15 @@ use Rattle.terms.specs.declared.term.Way.TheVariants.{Series, Parallel}
 use Rattle.terms.specs.Rows.{RowOf}
 use Rattle.terms.specs.Drawings.{Drawing, part, joined, one, more}
 use Rattle.terms.specs.Enumeration.{but, enumeration}
+use Rattle.diagram.specs.declared.refusal.Refusal.{Refusal}
 use Rattle.diagram.specs.declared.table.Table.{Table}
 use Rattle.diagram.specs.declared.diagram.Diagram.{Diagram}
+use Rattle.diagram.specs.Refusals.{Asked}
 use Rattle.diagram.specs.Calls.{Collected}
-use Rattle.diagram.specs.Histories.{History, made, drawing_of, states_of}
+use Rattle.diagram.specs.Histories.{History, made, drawing_of, states_of, Answers}
 use Rattle.diagram.specs.Runs.{Run}
 use Rattle.diagram.specs.Shown.{records}
+use Rattle.diagram.specs.Standing.{RowsStand}
 use Rattle.worked.specs.declared.plant.Drawn.{Drawn}
 use Rattle.worked.specs.declared.plant.Nodes.{Nodes}
 use Rattle.worked.specs.declared.plant.Plant.{Plant}
@@ -32,6 +35,16 @@ drawn = joined Series (more (one pumps_drawn) (part 2))
 abbrev pub redrawn : Drawing
 redrawn = joined Series (more (one (part 2)) (joined Parallel (more (one (part 1)) (part 0))))
 
+abbrev pub pumps_redrawn : Drawing
+pumps_redrawn = joined Parallel (more (one (part 1)) (part 0))
+
+-- the drawing of each node
+abbrev pub each_drawn : ℕ → Drawing
+each_drawn = but 3 pumps_drawn (but 4 drawn part)
+
+abbrev pub each_redrawn : ℕ → Drawing
+each_redrawn = but 3 pumps_redrawn (but 4 redrawn part)
+
 -- the nodes in the order in which they are made
 abbrev pub in_order : Nodes
 in_order = record { pump_a = 0; pump_b = 1; pipe = 2; pumps = 3; plant = 4 }
@@ -41,13 +54,14 @@ module _ {P : Type 0} (kind : Performance.Ghosts P) where
   abbrev pub RowOfDrawing : Plant P → Drawing → List (Term P Parts) → Type 0
   RowOfDrawing p d = RowOf kind parts_weight.ghosts (enumeration kind parts_weight.ghosts (states p) d)
 
-  -- some calls have drawn the plant so, with these states, and left this of the diagram and of the store
-  pub record DrawnOf (p : Plant P) (d : Drawn P) (s : List (Term P Parts)) : Type 0 where
+  -- some calls have drawn the plant so, with these states, and left this of the diagram and of the store; each node answers
+  pub record DrawnOf (p : Plant P) (so : Drawing) (d : Drawn P) (s : List (Term P Parts)) : Type 0 where
     pub nodes : d.nodes ≡ in_order
     pub calls : History P Parts
     pub run : Run kind parts_weight.ghosts calls d.diagram s
     pub five : made calls ≡ 5
-    pub drawing : drawing_of calls 4 ≡ drawn
+    pub answers : (k : ℕ) → k < 5 → Answers calls k
+    pub drawing : drawing_of calls 4 ≡ so
     pub pump_a : states_of calls 0 ≡ p.pump_a
     pub pump_b : states_of calls 1 ≡ p.pump_b
     pub pipe : states_of calls 2 ≡ p.pipe
@@ -57,3 +71,18 @@ module _ {P : Type 0} (kind : Performance.Ghosts P) where
   BothCollected t s first second t' s' =
       (between : Diagram P Parts) × (left : List (Term P Parts)) × (m : ℕ) × (n : ℕ) ×
       Collected kind parts_weight.ghosts t s first (Ok m) (records between) left × Collected kind parts_weight.ghosts (records between) left second (Ok n) t' s'
+
+  -- the first of two nodes is refused, or the second once the first is collected
+  abbrev pub OneRefused : Table → List (Term P Parts) → ℕ → ℕ → Refusal → Table → List (Term P Parts) → Type 0
+  OneRefused t s first second why t' s' =
+      Collected kind parts_weight.ghosts t s first (Err why) t' s' ⊎
+      ((between : Diagram P Parts) × (left : List (Term P Parts)) × (m : ℕ) ×
+      Collected kind parts_weight.ghosts t s first (Ok m) (records between) left × Collected kind parts_weight.ghosts (records between) left second (Err why) t' s')
+
+  -- The plant's five nodes, so drawn, have their rows in their places. Nothing else has changed but the working rows and the rest of these places.
+  abbrev pub RowsOfPlant : Plant P → (ℕ → Drawing) → List (Term P Parts) → List (Term P Parts) → Type 0
+  RowsOfPlant p drawing = RowsStand kind parts_weight.ghosts (λ k. k < 5) (λ k. enumeration kind parts_weight.ghosts (states p) (drawing k))
+
+  -- what is left of the store: all of it, if it is too short, or the rows of the plant
+  abbrev pub LeftByDrawing : Plant P → (ℕ → Drawing) → List (Term P Parts) → List (Term P Parts) → Type 0
+  LeftByDrawing p drawing s s' = Asked (3200 ≤ length s) (s' ≡ s) (RowsOfPlant p drawing s s')

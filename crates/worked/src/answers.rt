@@ -22,13 +22,16 @@ pub struct Row {
 }
 
 impl Row {
+    ghost use Rattle.worked.specs.Answering.{RowTold};
+
     // The row of node k, asked term by term.
     pub fn of(
         diagram: &Diagram<Flow, Parts>,
         store: &[Term<Flow, Parts>],
         k: usize,
     ) -> Result<Row, Refusal>
-        ensures { IfOk result (λ r. take r.len r.terms ≡ row_at (records diagram.now) store.now k) }
+        ensures row { IfOk result (λ r. take r.len r.terms ≡ row_at (records diagram.now) store.now k) }
+        ensures told { RowTold (records diagram.now) store.now k result }
     {
         let len = diagram.size(store, k)?;
         let mut terms = [state(0, 0); ROOM];
@@ -55,14 +58,15 @@ pub struct Answers {
 }
 
 impl Answers {
-    ghost use Rattle.worked.specs.Answering.{AnswersOf};
+    ghost use Rattle.worked.specs.Answering.{AnswersOf, AnswersTold};
 
     pub fn of(
         diagram: &Diagram<Flow, Parts>,
         store: &[Term<Flow, Parts>],
         k: usize,
     ) -> Result<Answers, Refusal>
-        ensures { IfOk result (λ a. AnswersOf (row_at (records diagram.now) store.now k) a.row a.three a.four a.five) }
+        ensures answers { IfOk result (λ a. AnswersOf (row_at (records diagram.now) store.now k) a.row a.three a.four a.five) }
+        ensures told { AnswersTold (records diagram.now) store.now k result }
     {
         Ok(Answers {
             row: Row::of(diagram, store, k)?,

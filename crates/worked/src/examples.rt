@@ -1,5 +1,5 @@
 // Values worked by hand, as theorems about the definitions.
-ghost use Rattle.worked.specs.Examples.{Examples, DrawnExamples};
+ghost use Rattle.worked.specs.Examples.{Examples, DrawnExamples, CountedExamples, LongExamples, FileExamples};
 
 // Every worked value follows from the definitions.
 pub fn examples_hold()
@@ -9,4 +9,19 @@ pub fn examples_hold()
 // So does every worked value of drawings.
 pub fn drawn_examples_hold()
     ensures { DrawnExamples }
+{}
+
+// So does every worked value of counts that stop at a top.
+pub fn counted_examples_hold()
+    ensures { CountedExamples }
+{}
+
+// So does every worked value of rows that are as long as may be, or longer.
+pub fn long_examples_hold()
+    ensures { LongExamples }
+{}
+
+// So does every worked value of model files.
+pub fn file_examples_hold()
+    ensures { FileExamples }
 {}

@@ -2,7 +2,7 @@
 ghost use Rattle.std.specs.Prelude.{◌≡◌, IfOk};
 ghost use Rattle.diagram.specs.Shown.{records};
 ghost use Rattle.worked.specs.Examples.{pump_a, pump_b, pipe};
-ghost use Rattle.worked.specs.Flows.{PlantAnswers, RedrawnAnswers, PumpsAlone, Overhauled};
+ghost use Rattle.worked.specs.Flows.{PlantAnswers, RedrawnAnswers, PumpsAlone, Overhauled, OverhaulCalls};
 
 use crate::answers::{Answers, Row};
 use crate::lines::Line;
@@ -89,7 +89,9 @@ fn second_drawing(rt: &HostRuntime, parts: &Plant<Flow>) -> anyhow::Result<Answe
     show_answers(rt, &drawn, &store)
 }
 
-fn compare(rt: &HostRuntime, first: &Answers, second: &Answers) -> anyhow::Result<()> {
+fn compare(rt: &HostRuntime, first: &Answers, second: &Answers) -> anyhow::Result<()>
+    ensures { IfOk result (λ _. second.now ≡ first.now) }
+{
     ensure!(*second == *first, "the second drawing answers otherwise");
     rt.println("the answers are the same")?;
     Ok(())
@@ -98,6 +100,7 @@ fn compare(rt: &HostRuntime, first: &Answers, second: &Answers) -> anyhow::Resul
 // Pump A gets new states: the plant is stale until it is collected again.
 fn overhaul(rt: &HostRuntime, drawn: &mut Drawn<Flow>, store: &mut [State]) -> anyhow::Result<()>
     ensures row { IfOk result (λ _. Overhauled drawn.old store.old drawn.new store.new) }
+    ensures calls { IfOk result (λ _. OverhaulCalls drawn.old store.old drawn.new store.new) }
     ensures nodes { drawn.new.nodes ≡ drawn.old.nodes }
 {
     // What holds of every run of calls: this diagram was made elsewhere.

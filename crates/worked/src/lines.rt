@@ -50,6 +50,8 @@ pub struct Need {
 }
 
 impl Need {
+    ghost use Rattle.worked.specs.Answering.{NeedTold};
+
     // As node k of the diagram answers it.
     pub fn of(
         demand: Flow,
@@ -61,6 +63,7 @@ impl Need {
         ensures met { IfOk result (λ n. n.met ≡ met_of ⟦<Flow as Performance>⟧ ⟦<Parts as Weight>⟧ demand (row_at (records diagram.now) store.now k)) }
         ensures all { IfOk result (λ n. n.all ≡ total_of ⟦<Parts as Weight>⟧ (row_at (records diagram.now) store.now k)) }
         ensures text { IfOk result (λ n. need_text n.demand n.met n.all ≡ demand_text demand (row_at (records diagram.now) store.now k)) }
+        ensures told { NeedTold (records diagram.now) store.now k demand result }
     {
         let (met, all) = diagram.availability(store, k, demand)?;
         Ok(Need { demand, met, all })

@@ -61,13 +61,14 @@ impl<P: Performance> Plant<P> {
     ghost use Rattle.std.specs.Prelude.{IfOk};
     ghost use Rattle.diagram.specs.Shown.{records};
     ghost use Rattle.diagram.specs.Store.{row_at};
-    ghost use Rattle.worked.specs.Plants.{RowOfDrawing, DrawnOf, drawn, redrawn, in_order};
+    ghost use Rattle.worked.specs.Plants.{RowOfDrawing, DrawnOf, LeftByDrawing, drawn, redrawn, each_drawn, each_redrawn, in_order};
 
     // Draws the plant and works it out: the pumps in parallel, then the pipe in series.
     pub fn draw(&self, store: &mut [Term<P, Parts>]) -> Result<Drawn<P>, Refusal>
-        ensures calls { IfOk result (λ d. DrawnOf P.Performance self.now d store.new) }
+        ensures calls { IfOk result (λ d. DrawnOf P.Performance self.now drawn d store.new) }
         ensures nodes { IfOk result (λ d. d.nodes ≡ in_order) }
         ensures row { IfOk result (λ d. RowOfDrawing P.Performance self.now drawn (row_at (records d.diagram) store.new d.nodes.plant)) }
+        ensures left { LeftByDrawing P.Performance self.now each_drawn store.old store.new }
     {
         let mut diagram = Diagram::new(store)?;
         let pump_a = diagram.add(store, &self.pump_a)?;
@@ -89,8 +90,10 @@ impl<P: Performance> Plant<P> {
 
     // The same the other way round: the pipe, then the pumps, exchanged.
     pub fn redraw(&self, store: &mut [Term<P, Parts>]) -> Result<Drawn<P>, Refusal>
+        ensures calls { IfOk result (λ d. DrawnOf P.Performance self.now redrawn d store.new) }
         ensures nodes { IfOk result (λ d. d.nodes ≡ in_order) }
         ensures row { IfOk result (λ d. RowOfDrawing P.Performance self.now redrawn (row_at (records d.diagram) store.new d.nodes.plant)) }
+        ensures left { LeftByDrawing P.Performance self.now each_redrawn store.old store.new }
     {
         let mut diagram = Diagram::new(store)?;
         let pump_a = diagram.add(store, &self.pump_a)?;
@@ -107,15 +110,16 @@ impl<P: Performance> Plant<P> {
             pumps,
             plant,
         };
+        // Nothing is restated after this, so each node answers.
         Ok(Drawn { diagram, nodes })
     }
 }
 
 impl<P: Performance> Drawn<P> {
-    ghost use Rattle.std.specs.Prelude.{IfOk};
+    ghost use Rattle.std.specs.Prelude.{IfOk, IfErr};
     ghost use Rattle.diagram.specs.Shown.{records};
     ghost use Rattle.diagram.specs.Calls.{Restated};
-    ghost use Rattle.worked.specs.Plants.{BothCollected};
+    ghost use Rattle.worked.specs.Plants.{BothCollected, OneRefused};
 
     // Gives pump A new states, which leaves the pumps and the plant stale.
     pub fn overhaul(
@@ -132,6 +136,7 @@ impl<P: Performance> Drawn<P> {
     // Works out the pumps, then the plant.
     pub fn collect(&mut self, store: &mut [Term<P, Parts>]) -> Result<(), Refusal>
         ensures collected { IfOk result (λ _. BothCollected P.Performance (records self.old.diagram) store.old self.old.nodes.pumps self.old.nodes.plant (records self.new.diagram) store.new) }
+        ensures refused { IfErr result (λ why. OneRefused P.Performance (records self.old.diagram) store.old self.old.nodes.pumps self.old.nodes.plant why (records self.new.diagram) store.new) }
         ensures nodes { self.new.nodes ≡ self.old.nodes }
     {
         self.diagram.collect(store, self.nodes.pumps)?;

@@ -3,7 +3,7 @@ ghost use Rattle.std.specs.Prelude.{Ok, length};
 ghost use Rattle.diagram.specs.Shown.{records};
 ghost use Rattle.diagram.specs.Calls.{Made};
 ghost use Rattle.diagram.specs.Runs.{AnswersRight};
-ghost use Rattle.worked.specs.Two.{OfTwo};
+ghost use Rattle.worked.specs.Two.{OfTwo, LeftOfTwo};
 
 use diagram::diagram::Diagram;
 use diagram::refusal::Refusal;
@@ -19,7 +19,8 @@ pub fn availability_of_two<P: Performance, W: Weight>(
     demand: P,
     store: &mut [Term<P, W>],
 ) -> Result<(W, W), Refusal>
-    ensures { OfTwo P.Performance W.Weight way first.now second.now demand (length store.old) result }
+    ensures answer { OfTwo P.Performance W.Weight way first.now second.now demand (length store.old) result }
+    ensures left { LeftOfTwo P.Performance W.Weight way first.now second.now store.old store.new }
 {
     let mut plant = Diagram::new(store)?;
     ask_two(&mut plant, way, first, second, demand, store)
@@ -36,7 +37,8 @@ fn ask_two<P: Performance, W: Weight>(
 ) -> Result<(W, W), Refusal>
     requires new { Made records store.old (Ok plant.old) }
     requires right { AnswersRight P.Performance W.Weight }
-    ensures { OfTwo P.Performance W.Weight way first.now second.now demand (length store.old) result }
+    ensures answer { OfTwo P.Performance W.Weight way first.now second.now demand (length store.old) result }
+    ensures left { LeftOfTwo P.Performance W.Weight way first.now second.now store.old store.new }
 {
     let a = plant.add(store, first)?;
     let b = plant.add(store, second)?;

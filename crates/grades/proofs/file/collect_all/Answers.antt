@@ -1,6 +1,7 @@
 use Rattle.std.proofs.Common.{◌≡◌, ◌⊎◌, ℕ, Result, Ok, Err, ◌∙◌, ap, refl, inl, inr, arith}
 use Rattle.diagram.specs.declared.refusal.Refusal.{Refusal}
 use Rattle.diagram.specs.declared.refusal.Refusal.TheVariants.{NotJoined}
+use Rattle.diagram.proofs.Standing.{kept_same, kept_on, collected_kept}
 use Rattle.files.proofs.Collecting.{none_below, all_answer, goes_on}
 use Rattle.grades.specs.contracts.grading.GradePerformance.TheImpl.{ghosts as grades}
 use Rattle.grades.specs.contracts.batching.BatchesWeight.TheImpl.{ghosts as batches}
@@ -12,6 +13,7 @@ pub loop-k-init : goal.loop-k-init
 loop-k-init c = record {
   run = λ lent ms many takes roomy run. (_, run, none_below grades batches lent ms);
   each = λ j l. absurd (omega (arith, l));
+  kept = kept_same refl;
   nodes = refl;
   demands = refl;
 }
@@ -36,6 +38,7 @@ loop-k-preserved c =
           c.runs_are_right.ensures.answers_right c.loop-k-test.true c.collect-answer.new.self c.collect-answer.new.store c.collect-answer.result taken
           (λ why is. same which is);
       each = one_more c.loop-k.model.diagram c.collect-answer.new.self c.loop-k.store c.collect-answer.new.store c.loop-k.k c.collect-answer.auto.store c.collect-answer.result which taken c.loop-k.invariant.each;
+      kept = kept_on c.loop-k.invariant.kept (collected_kept grades batches c.collect-answer.result (omega (arith, c.loop-k-test.true)) taken);
       nodes = c.loop-k.invariant.nodes;
       demands = c.loop-k.invariant.demands;
     }

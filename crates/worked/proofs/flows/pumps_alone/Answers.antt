@@ -9,4 +9,4 @@ use Rattle.worked.proofs.flows.pumps_alone.Goals as goal
 pub returns : goal.returns
 returns c =
     let parts = c.args.parts.now in
-    subst (λ demand. OfTwo flow_kind.ghosts parts_weight.ghosts Parallel parts.pump_a parts.pump_b demand 3200 c.availability_of_two.result) (c.new.ensures.only (capped_word 3) refl) c.availability_of_two.ensures
+    subst (λ demand. OfTwo flow_kind.ghosts parts_weight.ghosts Parallel parts.pump_a parts.pump_b demand 3200 c.availability_of_two.result) (c.new.ensures.only (capped_word 3) refl) c.availability_of_two.ensures.answer

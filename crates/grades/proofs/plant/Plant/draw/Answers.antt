@@ -9,11 +9,11 @@ use Rattle.grades.specs.Steps.{parts_made, nodes_made}
 use Rattle.grades.proofs.Going.{given, ok_same}
 use Rattle.grades.proofs.plant.Plant.draw.Goals as goal
 
-pub returns : goal.returns
-returns c =
+pub returns-clause-stands : goal.returns-clause-stands
+returns-clause-stands c =
     let long = c.add_parts.auto.store in
     let p = c.args.parts.now in
-    let added = (given (given (given c.in_ok-nodes.ensures).1).1).1 in
+    let added = (given (given (given c.in_ok-nodes.ensures.added).1).1).1 in
     let run = subst (λ n. Run grades batches (history_of n (parts_made p.first p.second p.finishing)) c.add_parts.new.plant c.add_parts.new.store) (sym long) added.1 in
     let joined = c.in_ok-joined.ensures p.first p.second p.finishing run in
     let is = ok_same joined.0 in

@@ -1,38 +1,86 @@
-use Rattle.std.proofs.Common.{[], ◌∷◌, refl}
+use Rattle.std.proofs.Common.{[], ◌∷◌, refl, arith, rules}
 use Rattle.kinds.proofs.Lawful.{lawful_kind}
-use Rattle.worked.proofs.Drawing.{Worked, worked_out}
-use Rattle.worked.proofs.plant.Plant.draw.Given.{Over}
+use Rattle.worked.proofs.Drawing.{TwoEach, Names, pipe_taken, pumps_taken, plant_taken, pumps_worked_out, plant_worked_out, worked_out, few, short, below_five}
+use Rattle.worked.specs.Plants.{pumps_drawn, drawn, each_drawn}
 use Rattle.worked.proofs.plant.Plant.draw.Goals as goal
 
-worked : (g : Over) (c : goal.In_ok-collect-2 g) → Worked g.P.Performance (lawful_kind g.met.P.Performance) c.in_ok-diagram.ensures.answers_right c.args.self.now
-    c.in_ok-diagram.diagram c.add.new.self c.add-2.new.self c.add-3.new.self c.join.new.self c.join-2.new.self c.collect.new.self c.collect-2.new.self
-    c.args.store.now c.add.new.store c.add-2.new.store c.add-3.new.store c.collect.new.store c.collect-2.new.store
-    c.in_ok-pump_a.pump_a c.in_ok-pump_b.pump_b c.in_ok-pipe.pipe c.in_ok-pumps.pumps c.in_ok-plant.plant c.in_ok-collect.field-0 c.in_ok-collect-2.field-0
-    (0 ∷ 1 ∷ []) (3 ∷ 2 ∷ [])
-    (c.in_ok-pump_a.pump_a ∷ c.in_ok-pump_b.pump_b ∷ [])
-    (c.in_ok-pumps.pumps ∷ c.in_ok-pipe.pipe ∷ [])
-worked g c = worked_out g.P.Performance (lawful_kind g.met.P.Performance) c.in_ok-diagram.ensures.answers_right c.args.self.now _ _ _ _ _ _ _ _ _ _ _ _ _ _ _ _ _ _ _ _ _ _ _ _ _
-    c.in_ok-diagram.ensures.made c.in_ok-pump_a.ensures c.in_ok-pump_b.ensures c.in_ok-pipe.ensures c.in_ok-pumps.ensures c.in_ok-plant.ensures
-    c.in_ok-collect.ensures c.in_ok-collect-2.ensures (λ e f i. e i ∷ f i ∷ []) (λ e f i. e i ∷ f i ∷ [])
+names : Names 0 1 3 2
+names = record {
+  first = omega arith;
+  second = omega arith;
+  pumps = λ e. omega (arith, e);
+  past_third = omega arith;
+  third = omega arith;
+  past_fourth = omega arith;
+  fourth = omega arith;
+  plant = λ e. omega (arith, e);
+}
 
-pub returns-clause-calls : goal.returns-clause-calls
-returns-clause-calls g c =
-    let w = worked g c in
+-- none of the calls is refused
+
+pub returns-in_err-pipe-clause-left : goal.returns-in_err-pipe-clause-left
+returns-in_err-pipe-clause-left g c =
+    let two : TwoEach c.args.self.now = record { pump_a = search rules; pump_b = search rules; pipe = search rules } in
+    absurd (pipe_taken g.P.Performance (lawful_kind g.met.P.Performance) c.in_ok-diagram.ensures.answers_right c.args.self.now two c.in_ok-diagram.diagram c.args.store.now c.in_ok-diagram.ensures.made
+    _ _ c.add.new.self c.add-2.new.self c.add.new.store c.add-2.new.store c.in_ok-pump_a.ensures c.in_ok-pump_b.ensures
+    c.add-3.new.self c.add-3.new.store _ c.in_err-pipe.ensures)
+
+pub returns-in_err-pumps-clause-left : goal.returns-in_err-pumps-clause-left
+returns-in_err-pumps-clause-left g c =
+    let two : TwoEach c.args.self.now = record { pump_a = search rules; pump_b = search rules; pipe = search rules } in
+    absurd (pumps_taken g.P.Performance (lawful_kind g.met.P.Performance) c.in_ok-diagram.ensures.answers_right c.args.self.now two c.in_ok-diagram.diagram c.args.store.now c.in_ok-diagram.ensures.made
+    _ _ c.add.new.self c.add-2.new.self c.add.new.store c.add-2.new.store c.in_ok-pump_a.ensures c.in_ok-pump_b.ensures
+    _ c.add-3.new.self c.add-3.new.store c.in_ok-pipe.ensures 0 1 3 2 names _ (λ e f i. e i ∷ f i ∷ [])
+    c.join.new.self _ c.in_err-pumps.ensures)
+
+pub returns-in_err-plant-clause-left : goal.returns-in_err-plant-clause-left
+returns-in_err-plant-clause-left g c =
+    let two : TwoEach c.args.self.now = record { pump_a = search rules; pump_b = search rules; pipe = search rules } in
+    absurd (plant_taken g.P.Performance (lawful_kind g.met.P.Performance) c.in_ok-diagram.ensures.answers_right c.args.self.now two c.in_ok-diagram.diagram c.args.store.now c.in_ok-diagram.ensures.made
+    _ _ c.add.new.self c.add-2.new.self c.add.new.store c.add-2.new.store c.in_ok-pump_a.ensures c.in_ok-pump_b.ensures
+    _ c.add-3.new.self c.add-3.new.store c.in_ok-pipe.ensures 0 1 3 2 names _ (λ e f i. e i ∷ f i ∷ [])
+    _ c.join.new.self c.in_ok-pumps.ensures _ (λ e f i. e i ∷ f i ∷ []) c.join-2.new.self _ c.in_err-plant.ensures)
+
+pub returns-in_err-collect-clause-left : goal.returns-in_err-collect-clause-left
+returns-in_err-collect-clause-left g c =
+    let two : TwoEach c.args.self.now = record { pump_a = search rules; pump_b = search rules; pipe = search rules } in
+    absurd (pumps_worked_out g.P.Performance (lawful_kind g.met.P.Performance) c.in_ok-diagram.ensures.answers_right c.args.self.now two c.in_ok-diagram.diagram c.args.store.now c.in_ok-diagram.ensures.made
+    _ _ c.add.new.self c.add-2.new.self c.add.new.store c.add-2.new.store c.in_ok-pump_a.ensures c.in_ok-pump_b.ensures
+    _ c.add-3.new.self c.add-3.new.store c.in_ok-pipe.ensures 0 1 3 2 names _ (λ e f i. e i ∷ f i ∷ [])
+    _ c.join.new.self c.in_ok-pumps.ensures _ (λ e f i. e i ∷ f i ∷ []) _ c.join-2.new.self c.in_ok-plant.ensures
+    (short g.P.Performance (lawful_kind g.met.P.Performance) pumps_drawn _ refl (few g.P.Performance (lawful_kind g.met.P.Performance) pumps_drawn (λ x x' y y' z z'. omega arith) c.args.self.now two)) c.collect.new.self c.collect.new.store _ c.in_err-collect.ensures)
+
+pub returns-in_err-collect-2-clause-left : goal.returns-in_err-collect-2-clause-left
+returns-in_err-collect-2-clause-left g c =
+    let two : TwoEach c.args.self.now = record { pump_a = search rules; pump_b = search rules; pipe = search rules } in
+    absurd (plant_worked_out g.P.Performance (lawful_kind g.met.P.Performance) c.in_ok-diagram.ensures.answers_right c.args.self.now two c.in_ok-diagram.diagram c.args.store.now c.in_ok-diagram.ensures.made
+    _ _ c.add.new.self c.add-2.new.self c.add.new.store c.add-2.new.store c.in_ok-pump_a.ensures c.in_ok-pump_b.ensures
+    _ c.add-3.new.self c.add-3.new.store c.in_ok-pipe.ensures 0 1 3 2 names _ (λ e f i. e i ∷ f i ∷ [])
+    _ c.join.new.self c.in_ok-pumps.ensures _ (λ e f i. e i ∷ f i ∷ []) _ c.join-2.new.self c.in_ok-plant.ensures
+    _ c.collect.new.self c.collect.new.store c.in_ok-collect.ensures
+    (short g.P.Performance (lawful_kind g.met.P.Performance) drawn _ refl (few g.P.Performance (lawful_kind g.met.P.Performance) drawn (λ x x' y y' z z'. omega arith) c.args.self.now two)) c.collect-2.new.self c.collect-2.new.store _ c.in_err-collect-2.ensures)
+
+pub returns : goal.returns
+returns g c =
+    let two : TwoEach c.args.self.now = record { pump_a = search rules; pump_b = search rules; pipe = search rules } in
+    let w = worked_out g.P.Performance (lawful_kind g.met.P.Performance) c.in_ok-diagram.ensures.answers_right c.args.self.now two c.in_ok-diagram.diagram c.args.store.now c.in_ok-diagram.ensures.made
+    _ _ c.add.new.self c.add-2.new.self c.add.new.store c.add-2.new.store c.in_ok-pump_a.ensures c.in_ok-pump_b.ensures
+    _ c.add-3.new.self c.add-3.new.store c.in_ok-pipe.ensures 0 1 3 2 names _ (λ e f i. e i ∷ f i ∷ [])
+    _ c.join.new.self c.in_ok-pumps.ensures _ (λ e f i. e i ∷ f i ∷ []) _ c.join-2.new.self c.in_ok-plant.ensures
+    _ c.collect.new.self c.collect.new.store c.in_ok-collect.ensures _ c.collect-2.new.self c.collect-2.new.store c.in_ok-collect-2.ensures in
     record {
+      calls = record {
+        nodes = λ i. record { pump_a = w.is_a i; pump_b = w.is_b i; pipe = w.is_pipe i; pumps = w.are_pumps i; plant = w.is_plant i };
+        calls = _;
+        run = w.run;
+        five = refl;
+        answers = w.answers;
+        drawing = refl;
+        pump_a = refl;
+        pump_b = refl;
+        pipe = refl;
+      };
       nodes = λ i. record { pump_a = w.is_a i; pump_b = w.is_b i; pipe = w.is_pipe i; pumps = w.are_pumps i; plant = w.is_plant i };
-      calls = _;
-      run = w.run;
-      five = refl;
-      drawing = refl;
-      pump_a = refl;
-      pump_b = refl;
-      pipe = refl;
+      row = w.row;
+      left = w.left each_drawn (below_five _ refl refl refl refl refl);
     }
-
-pub returns-clause-nodes : goal.returns-clause-nodes
-returns-clause-nodes g c =
-    let w = worked g c in
-    λ i. record { pump_a = w.is_a i; pump_b = w.is_b i; pipe = w.is_pipe i; pumps = w.are_pumps i; plant = w.is_plant i }
-
-pub returns-clause-row : goal.returns-clause-row
-returns-clause-row g c = (worked g c).row

@@ -1,0 +1,6 @@
+use Rattle.std.proofs.Common.{sym, ◌∙◌, rules}
+use Rattle.worked.proofs.Same.{answers_same}
+use Rattle.worked.proofs.flows.compare.Goals as goal
+
+pub returns-2 : goal.returns-2
+returns-2 c = answers_same c.args.second.now c.args.first.now (sym c.eq.ensures ∙ search rules)
