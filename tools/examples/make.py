@@ -153,6 +153,35 @@ EXAMPLES = {
         ],
         [OUT, 25, 30, TOP],
     ),
+    # Five valves in series, each open in 90 parts of a hundred. All open are 5904900000 of 10000000000: both are past the top, and
+    # stop there; that not all are open are 4095100000, which is below.
+    "valves": (1, [part((1, 90), (0, 10))] * 5 + [series(0, 1, 2, 3, 4)], [1]),
+    # The same with worn valves: all open are 102400000, which is true, of a total that is past the top.
+    "worn-valves": (1, [part((1, 40), (0, 60))] * 5 + [series(0, 1, 2, 3, 4)], [1]),
+    # The first valves in tenths: nothing is past the top.
+    "valves-in-tenths": (1, [part((1, 9), (0, 1))] * 5 + [series(0, 1, 2, 3, 4)], [1]),
+    # A pump that has power while one of two lines stands: no power (bit 0) or flooded (bit 1), in which of four storms.
+    "storms": (
+        3,
+        [
+            part((0, 0b0111), (0b01, 0b1000)),
+            part((0, 0b0011), (0b01, 0b1100)),
+            parallel(0, 1),
+            part((0, 0b0101), (0b10, 0b1010)),
+            series(2, 3),
+        ],
+        [0, 0b01, 0b10, 0b11],
+    ),
+    # A plant is restarted, first the boiler, then the line: hours until it runs and what it yields, at the least cost.
+    "restart-costs": (
+        5,
+        [
+            part(((1, 60), 1150), ((2, 60), 900), ((4, 60), 400)),
+            part(((1, 60), 400), ((3, 40), 200)),
+            series(0, 1),
+        ],
+        [(4, 50), (5, 50), (1, 50)],
+    ),
 }
 
 

@@ -116,21 +116,30 @@ class Nothing:
         pass
 
 
-def main():
-    arguments = with_knobs(argparse.ArgumentParser(description="compare the engine with this program"))
+def with_engine(arguments, ways):
+    """The options of a comparison: by which of these ways the engine is asked, and of which files."""
     other = arguments.add_mutually_exclusive_group()
-    other.add_argument("--command", type=Program)
-    other.add_argument("--library", type=Library)
-    other.add_argument("--vectors", type=Vectors)
+    for name, way in ways.items():
+        other.add_argument("--" + name, type=way, dest="engine", default=Nothing())
     arguments.add_argument("--feasible", type=int, default=20_000)
-    arguments.add_argument("--both", action="store_true")
     arguments.add_argument("--from", type=int, default=0, dest="first")
     arguments.add_argument("--save", type=pathlib.Path, default=pathlib.Path("differs.model"))
+    return arguments
+
+
+def numbers(chosen):
+    return range(chosen.first, chosen.first + chosen.count)
+
+
+def main():
+    arguments = with_knobs(argparse.ArgumentParser(description="compare the engine with this program"))
+    with_engine(arguments, {"command": Program, "library": Library, "vectors": Vectors})
+    arguments.add_argument("--both", action="store_true")
     chosen = arguments.parse_args()
-    engine = chosen.command or chosen.library or chosen.vectors or Nothing()
+    engine = chosen.engine
     finder = Finder(chosen.feasible, chosen.both or isinstance(engine, Nothing))
     coverage = Coverage()
-    for number in range(chosen.first, chosen.first + chosen.count):
+    for number in numbers(chosen):
         data = generated(chosen.seed, number, knobs_of(chosen))
         try:
             answer = expected(data[: engine.most], finder)
@@ -142,7 +151,7 @@ def main():
             print(difference)
             sys.exit(1)
     print(coverage.table(), flush=True)
-    if chosen.vectors:
+    if isinstance(engine, Vectors):
         engine.finish()
     print(f"rows enumerated: {finder.enumerated}, found child by child: {finder.convolved}, found alike in both ways: {finder.agreed}")
     print(f"{chosen.count} files, no difference")

@@ -28,25 +28,31 @@ def ask(answer, layer, record, number):
         raise Fault(layer, record, number)
 
 
-def report(data, room=None, finder=None):
+def report(data, room=None, finder=None, models=MODELS):
     """The report on a file, or else a Fault is raised. `room` is how many bytes the output has; None for enough."""
-    ask(len(data) > 0 and data[0] in MODELS, FILE, NO_RECORD, 21)
-    kind, weight = MODELS[data[0]]
-    ask(len(data) > 1 and 2 <= data[1] <= 49, FILE, NO_RECORD, 22)
-    nodes, demands, end = read_records(data, kind)
-    ask(end == len(data), FILE, NO_RECORD, 25)
+    kind, weight, nodes, demands = read(data, models)
     row = collect(kind, weight, nodes, finder or Finder())
     text = written(kind, weight, row, demands)
     ask(room is None or len(text) <= room, REPORT, NO_RECORD, 27)
     return text
 
 
-def answer(data, finder=None):
+def answer(data, finder=None, models=MODELS):
     """What the program prints, given what it hands over."""
     try:
-        return report(data, None, finder)
+        return report(data, None, finder, models)
     except Fault as fault:
         return fault.line()
+
+
+def read(data, models=MODELS):
+    """The kind, the weight, the nodes and the demands of a file."""
+    ask(len(data) > 0 and data[0] in models, FILE, NO_RECORD, 21)
+    kind, weight = models[data[0]]
+    ask(len(data) > 1 and 2 <= data[1] <= 49, FILE, NO_RECORD, 22)
+    nodes, demands, end = read_records(data, kind)
+    ask(end == len(data), FILE, NO_RECORD, 25)
+    return kind, weight, nodes, demands
 
 
 def read_records(data, kind):
@@ -81,13 +87,19 @@ def read_records(data, kind):
     return nodes, demands, at
 
 
+def drawings_of(nodes):
+    drawings = []
+    for k, (letter, what) in enumerate(nodes):
+        drawings.append(k if letter == "P" else (letter, [drawings[child] for child in what]))
+    return drawings
+
+
 def collect(kind, weight, nodes, finder):
     """The row of the last node, once every joined node is collected."""
-    drawings, rows = [], []
+    drawings, rows = drawings_of(nodes), []
     states = {k: what for k, (letter, what) in enumerate(nodes) if letter == "P"}
     for k, (letter, what) in enumerate(nodes):
         if letter == "P":
-            drawings.append(k)
             rows.append(row_of_states(weight, what))
             continue
         below = [rows[child] for child in what]
@@ -95,20 +107,20 @@ def collect(kind, weight, nodes, finder):
         children = [drawings[child] for child in what]
         results = finder.running(kind, weight, letter, children, below, states)
         ask(None not in results, DIAGRAM, k, 12)
-        drawings.append((letter, children))
         rows.append(results[-1])
     return rows[-1]
 
 
-def written(kind, weight, row, demands):
-    everything = total(weight, row)
+def written(kind, weight, row, demands, shown=lambda w: w):
+    """The report on a row; `shown` is what is printed of a weight."""
+    everything = shown(total(weight, row))
     lines = []
     for demand in demands:
         high, low = kind.words(demand)
-        lines.append(b"need %d %d met %d of %d\n" % (high, low, met(kind, weight, row, demand), everything))
+        lines.append(b"need %d %d met %d of %d\n" % (high, low, shown(met(kind, weight, row, demand)), everything))
     for performance in sorted(row):
         high, low = kind.words(performance)
-        lines.append(b"term %d %d %d\n" % (high, low, row[performance]))
+        lines.append(b"term %d %d %d\n" % (high, low, shown(row[performance])))
     return b"".join(lines)
 
 

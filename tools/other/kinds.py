@@ -187,6 +187,18 @@ class Parts:
         return capped(v * w)
 
 
+class WholeNumbers:
+    """Parts without a cap; no file has them."""
+
+    nothing = 0
+
+    def sum(self, v, w):
+        return v + w
+
+    def product(self, v, w):
+        return v * w
+
+
 class Scenarios:
     nothing = 0
 
@@ -216,3 +228,5 @@ MODELS = {
     6: (OrOut(Flow()), Parts()),
     7: (OrOut(Delay()), Parts()),
 }
+WITH_PARTS = [model for model, (_, weight) in MODELS.items() if isinstance(weight, Parts)]
+UNCAPPED = {**MODELS, **{model: (MODELS[model][0], WholeNumbers()) for model in WITH_PARTS}}

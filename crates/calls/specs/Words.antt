@@ -1,6 +1,5 @@
 -- The two words that write a performance in a sequence.
 use Rattle.std.specs.Prelude.{◌≡◌, ℕ, ◌≤◌, ◌⊎◌}
-use Rattle.kinds.specs.Named.{Delay}
 use Rattle.kinds.specs.Words.{number}
 use Rattle.kinds.specs.declared.word.Word.{Word}
 use Rattle.kinds.specs.declared.values.OrOut.{OrOut}
@@ -15,12 +14,12 @@ abbrev pub AreNumber : ℕ → ℕ → Type 0
 AreNumber high low = high ≡ 0
 
 -- and out by 1 and 0
-abbrev pub delay_words : OrOut Delay → ℕ × ℕ
-delay_words Out = (1, 0)
-delay_words (Working v) = number_words v
+abbrev pub number_or_out_words : {Of : Type 0} → OrOut (Word Of) → ℕ × ℕ
+number_or_out_words Out = (1, 0)
+number_or_out_words (Working v) = number_words v
 
-abbrev pub AreDelay : ℕ → ℕ → Type 0
-AreDelay high low = (high ≡ 0) ⊎ ((high ≡ 1) × (low ≡ 0))
+abbrev pub AreNumberOrOut : ℕ → ℕ → Type 0
+AreNumberOrOut high low = (high ≡ 0) ⊎ ((high ≡ 1) × (low ≡ 0))
 
 -- a grade is written by 0 and its number, which is 9 at most
 abbrev pub grade_words : Grade → ℕ × ℕ

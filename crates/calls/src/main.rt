@@ -20,7 +20,7 @@ mod written;
 
 // One sequence: the name of its kind, and then a call a line. Answers how many calls.
 fn play_one(rt: &HostRuntime, sequence: &str) -> anyhow::Result<usize>
-    ensures { IfOk result (λ n. Sequence (λ calls. Played ⟦<Flow as Written>⟧ ⟦<Flow as Performance>⟧ calls n) (λ calls. Played ⟦<FirstFault as Written>⟧ ⟦<FirstFault as Performance>⟧ calls n) (λ calls. Played ⟦<OrOut<Delay> as Written>⟧ ⟦<OrOut<Delay> as Performance>⟧ calls n) (λ calls. Played ⟦<Grade as Written>⟧ ⟦<Grade as Performance>⟧ calls n) sequence.now (n ≡ 0)) }
+    ensures { IfOk result (λ n. Sequence (λ calls. Played ⟦<Flow as Written>⟧ ⟦<Flow as Performance>⟧ calls n) (λ calls. Played ⟦<FirstFault as Written>⟧ ⟦<FirstFault as Performance>⟧ calls n) (λ calls. Played ⟦<OrOut<Delay> as Written>⟧ ⟦<OrOut<Delay> as Performance>⟧ calls n) (λ calls. Played ⟦<OrOut<FirstFault> as Written>⟧ ⟦<OrOut<FirstFault> as Performance>⟧ calls n) (λ calls. Played ⟦<Grade as Written>⟧ ⟦<Grade as Performance>⟧ calls n) sequence.now (n ≡ 0)) }
 {
     let Some((kind, calls)) = sequence.split_once('\n') else {
         return Ok(0);
@@ -29,6 +29,7 @@ fn play_one(rt: &HostRuntime, sequence: &str) -> anyhow::Result<usize>
         "flow" => play::play::<Flow>(rt, calls),
         "first" => play::play::<FirstFault>(rt, calls),
         "delay" => play::play::<OrOut<Delay>>(rt, calls),
+        "first-or-out" => play::play::<OrOut<FirstFault>>(rt, calls),
         "grade" => play::play::<Grade>(rt, calls),
         _ => anyhow::bail!("no kind is named {kind}"),
     }

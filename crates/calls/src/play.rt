@@ -121,12 +121,14 @@ fn call<P: Performance + Written>(
     }
 }
 
-// That a call is answered other than it is to be becomes an error.
-fn compare(asked: &str, said: &str, wanted: &str) -> anyhow::Result<()>
+// That a call is answered other than it is to be becomes an error. The whole line is told before,
+// since an error keeps 120 bytes.
+fn compare(rt: &HostRuntime, asked: &str, said: &str, wanted: &str) -> anyhow::Result<()>
     ensures { IfOk result (λ _. said.now ≡ wanted.now) }
 {
     if said != wanted {
-        bail!("{asked} is answered {said}, and not {wanted}");
+        eprintln!(rt; "{asked} is answered {said}, and not {wanted}")?;
+        bail!("a call is answered other than it is to be");
     }
     Ok(())
 }
@@ -151,7 +153,7 @@ fn play_line<P: Performance + Written>(
         bail!("the store has fewer than {len} terms");
     }
     let said = call(rt, diagram, &mut store[..len], asked)?;
-    compare(asked, said.as_str(), wanted)
+    compare(rt, asked, said.as_str(), wanted)
 }
 
 // Makes the calls, one a line, and answers how many; an error where one is answered other than it says.

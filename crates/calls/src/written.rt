@@ -1,9 +1,10 @@
 // How the sequences write a performance: as two words, like a model file.
 ghost use Rattle.std.specs.Prelude.{◌≡◌, ℕ, ◌↔◌, IsSome, IfSome};
-ghost use Rattle.calls.specs.Words.{number_words, AreNumber, delay_words, AreDelay, grade_words, AreGrade};
+ghost use Rattle.calls.specs.Words.{number_words, AreNumber, number_or_out_words, AreNumberOrOut, grade_words, AreGrade};
 
 use crate::grade::Grade;
-use kinds::values::{Delay, FirstFault, Flow, OrOut};
+use kinds::values::OrOut;
+use kinds::word::Word;
 
 pub trait Written: Copy {
     // The words that write a performance.
@@ -21,13 +22,13 @@ pub trait Written: Copy {
         ensures { result ≡ words self };
 }
 
-impl Written for Flow {
+impl<Of> Written for Word<Of> {
     ghost words = { number_words };
 
     ghost AreWords = { AreNumber };
 
-    fn of_words(high: u32, low: u32) -> Option<Flow> {
-        (high == 0).then_some(Flow::new(low))
+    fn of_words(high: u32, low: u32) -> Option<Self> {
+        (high == 0).then_some(Word::new(low))
     }
 
     fn words(self) -> (u32, u32) {
@@ -35,28 +36,14 @@ impl Written for Flow {
     }
 }
 
-impl Written for FirstFault {
-    ghost words = { number_words };
+impl<Of> Written for OrOut<Word<Of>> {
+    ghost words = { number_or_out_words };
 
-    ghost AreWords = { AreNumber };
+    ghost AreWords = { AreNumberOrOut };
 
-    fn of_words(high: u32, low: u32) -> Option<FirstFault> {
-        (high == 0).then_some(FirstFault::new(low))
-    }
-
-    fn words(self) -> (u32, u32) {
-        (0, self.number())
-    }
-}
-
-impl Written for OrOut<Delay> {
-    ghost words = { delay_words };
-
-    ghost AreWords = { AreDelay };
-
-    fn of_words(high: u32, low: u32) -> Option<OrOut<Delay>> {
+    fn of_words(high: u32, low: u32) -> Option<Self> {
         match (high, low) {
-            (0, _) => Some(OrOut::Working(Delay::new(low))),
+            (0, _) => Some(OrOut::Working(Word::new(low))),
             (1, 0) => Some(OrOut::Out),
             _ => None,
         }
@@ -65,7 +52,7 @@ impl Written for OrOut<Delay> {
     fn words(self) -> (u32, u32) {
         match self {
             OrOut::Out => (1, 0),
-            OrOut::Working(time) => (0, time.number()),
+            OrOut::Working(value) => (0, value.number()),
         }
     }
 }

@@ -25,8 +25,14 @@ returns-in-delay c =
     let text = cut.0 ∙ ap (λ (z : List ℕ). z ++ (10 ∷ c.in-Some.calls.now)) c.in-delay.is in
     after c.play-in-delay.result (λ n played. inr (c.in-Some.calls.now, inr (inr (inl (text, played))))) c.play-in-delay.ensures
 
+pub returns-in-text : goal.returns-in-text
+returns-in-text c =
+    let cut = split_parts 10 c.args.sequence.now (Some (c.in-Some.kind, c.in-Some.calls)) c.in-Some.ensures.cases (omega arith) in
+    let text = cut.0 ∙ ap (λ (z : List ℕ). z ++ (10 ∷ c.in-Some.calls.now)) c.in-text.is in
+    after c.play-in-text.result (λ n played. inr (c.in-Some.calls.now, inr (inr (inr (inl (text, played)))))) c.play-in-text.ensures
+
 pub returns-in-grade : goal.returns-in-grade
 returns-in-grade c =
     let cut = split_parts 10 c.args.sequence.now (Some (c.in-Some.kind, c.in-Some.calls)) c.in-Some.ensures.cases (omega arith) in
     let text = cut.0 ∙ ap (λ (z : List ℕ). z ++ (10 ∷ c.in-Some.calls.now)) c.in-grade.is in
-    after c.play-in-grade.result (λ n played. inr (c.in-Some.calls.now, inr (inr (inr (text, played))))) c.play-in-grade.ensures
+    after c.play-in-grade.result (λ n played. inr (c.in-Some.calls.now, inr (inr (inr (inr (text, played)))))) c.play-in-grade.ensures
