@@ -13,6 +13,41 @@
 extern "C" {
 #endif
 
+/* ========================================== IMPORTANT ==========================================
+ *
+ * WHAT THE NUMBERS OF A REPORT SAY
+ *
+ * Models 1, 2, 4, 6 and 7, parts: every weight stops at 4294967295, the top. Each weight that is
+ * printed is the true one, worked out over all combinations with whole numbers and no cap, and
+ * stopped at the top once, at the end. So:
+ *
+ *     the total is below the top    nothing was stopped: every weight and every "met" is true, and
+ *                                   "met M of T" is the share M / T, where T is not 0
+ *     the total is 4294967295       a weight below the top is true; of a weight at the top, and of
+ *                                   the total, the truth is that or more, and from that number
+ *                                   alone no more is known
+ *
+ * Where no term's weight is at the top, each term is true, whatever the total: then the true total
+ * is the sum of the printed terms, and what meets a need the sum of those that meet it (64 bits
+ * have room for such sums).
+ *
+ * NEVER DIVIDE BY A TOTAL THAT IS AT THE TOP. Five valves in series, each open in 90 parts of 100,
+ * print "met 4294967295 of 4294967295"; that is not certain, but 5904900000 of 10000000000. In 9
+ * of 10 they print "met 59049 of 100000", which is exact. The true total is the product of what
+ * the weights of each part beneath the last node sum to: keep that product below 4294967295.
+ *
+ * Performances stop too: a flow of 4294967295 may stand for more, and a delay of 4294967295 is
+ * never.
+ *
+ * Model 3, scenarios: a weight is a set, bit i for scenario i, and nothing is stopped. A count of
+ * bits is not a probability.
+ *
+ * Model 5, effort: "met 1300 of 600" is no error: the least cost of what meets the need, and of
+ * anything at all. 4294967295 says that it cannot be had, or only for that or more.
+ *
+ * docs/READING-A-ROW.md tells all of it, with examples, and how to keep below the top.
+ * ============================================================================================= */
+
 /* No report is longer: an output of this many bytes always has room for it. */
 #define VIVIDLAWN_LONGEST_REPORT 3328
 
