@@ -1,5 +1,5 @@
 -- Small facts that several proofs use.
-use Rattle.std.proofs.Common.{◌≡◌, ℕ, ◌+◌, ◌<◌, ◌⊎◌, Bool, true, false, Option, Some, unwrap_or, ap, inl, inr, arith}
+use Rattle.std.proofs.Common.{◌≡◌, ◌≢◌, refl, ℕ, ◌+◌, ◌<◌, ◌⊎◌, Bool, true, false, Option, Some, unwrap_or, ap, inl, inr, arith}
 use Rattle.std.proofs.lemmas.Bool.{cases_lt}
 use Rattle.diagram.specs.declared.node.Form.{Form}
 use Rattle.diagram.specs.declared.node.Form.TheVariants.{Part, Joined, Bridge}
@@ -18,3 +18,8 @@ abbrev pub is_part : Form → Bool
 is_part Part = true
 is_part (Joined way) = false
 is_part Bridge = false
+
+pub part_unless : (f : Form) → ¬ (f ≢ Part) → f ≡ Part
+part_unless Part n = refl
+part_unless (Joined way) n = absurd (n (λ e. cc))
+part_unless Bridge n = absurd (n (λ e. cc))

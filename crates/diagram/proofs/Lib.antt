@@ -26,3 +26,4 @@ pub mod Stepping
 pub mod Promise
 pub mod Standing
 pub mod Counted
+pub mod InTurn

@@ -12,4 +12,6 @@ pub mod RightAnswers
 pub mod Calls
 pub mod Shown
 pub mod Runs
+pub mod Makings
+pub mod InTurn
 pub mod Counted

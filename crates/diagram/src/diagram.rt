@@ -9,9 +9,6 @@ mod change;
 mod collect;
 mod make;
 
-// How many terms a store has at least: 64 for the row of each of 48 nodes, and two working rows.
-const STORE: usize = 3200;
-
 // Neither Copy nor Clone: every diagram has one history.
 #[derive(Drop)]
 pub struct Diagram<P, W> {

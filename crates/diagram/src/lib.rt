@@ -2,6 +2,8 @@
 #![tactic(auto)]
 
 pub mod diagram;
+pub mod limits;
+pub mod making;
 pub mod node;
 pub mod refusal;
 pub mod table;

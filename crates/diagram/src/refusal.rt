@@ -21,6 +21,13 @@ pub enum Refusal {
     NoTerm,
 }
 
+/// Where collecting one node after the other was refused: the node's number, and why.
+#[derive(Clone, Copy, PartialEq, Eq, Debug)]
+pub struct RefusedAt {
+    pub node: usize,
+    pub refusal: Refusal,
+}
+
 impl Refusal {
     // The number by which a host knows the refusal.
     pub fn number(self) -> u8

@@ -3,7 +3,8 @@ ghost use Rattle.std.specs.Prelude.{◌≡◌, Ok};
 ghost use Rattle.diagram.specs.Shown.{records};
 ghost use Rattle.diagram.specs.Calls.{Asks, TellsSize, TellsTerm, TellsTotal, TellsAvailability};
 
-use super::{Diagram, STORE};
+use super::Diagram;
+use crate::limits::STORE;
 use crate::refusal::Refusal;
 use crate::work::row_of;
 use kinds::performance::Performance;

@@ -3,9 +3,12 @@ ghost use Rattle.std.specs.Prelude.{◌≢◌, ◌↔◌, IsTrue};
 ghost use Rattle.diagram.specs.declared.node.Form.TheVariants.{Part, Joined, Bridge};
 ghost use Rattle.diagram.specs.Shown.{records};
 ghost use Rattle.diagram.specs.Calls.{Added, Joins, Restated};
+ghost use Rattle.diagram.specs.Makings.{Makes};
 ghost use Rattle.diagram.specs.Nodes.{EnoughStates};
 
-use super::{Diagram, STORE};
+use super::Diagram;
+use crate::limits::{NODES, STORE, TERMS};
+use crate::making::Making;
 use crate::node::Form;
 use crate::refusal::Refusal;
 use crate::table::are_distinct;
@@ -20,7 +23,7 @@ impl<P: Performance, W: Weight> Diagram<P, W> {
         ensures { Added P.Performance W.Weight (records self.old) store.old states.now result (records self.new) store.new }
     {
         Refusal::ShortStore.unless(store.len() >= STORE)?;
-        Refusal::NoNumberLeft.unless(self.table.count < 48)?;
+        Refusal::NoNumberLeft.unless(self.table.count < NODES)?;
         Refusal::WrongStates.unless(may_be_states(states.len()))?;
         let k = self.table.count;
         let size = put_row(store, k, states);
@@ -47,6 +50,25 @@ impl<P: Performance, W: Weight> Diagram<P, W> {
         self.join_as(store, Form::Bridge, &arms)
     }
 
+    /// Makes a node as it is said, and answers its number: what `add`, `join` or `join_bridge`
+    /// answers, with their refusals.
+    pub fn make(
+        &mut self,
+        store: &mut [Term<P, W>],
+        making: Making<P, W>,
+    ) -> Result<usize, Refusal>
+        ensures { Makes P.Performance W.Weight making.entry self.old store.old result self.new store.new }
+    {
+        match making {
+            Making::Added(states) => self.add(store, states),
+            Making::Joined(way, children) => self.join(store, way, children),
+            Making::Bridged(arms) => {
+                let [a, b, c, d, e] = arms;
+                self.join_bridge(store, [a, b, c, d, e])
+            }
+        }
+    }
+
     fn join_as(
         &mut self,
         store: &[Term<P, W>],
@@ -57,7 +79,7 @@ impl<P: Performance, W: Weight> Diagram<P, W> {
         ensures { Joins P.Performance W.Weight (records self.old) store.now form children.now result (records self.new) }
     {
         Refusal::ShortStore.unless(store.len() >= STORE)?;
-        Refusal::NoNumberLeft.unless(self.table.count < 48)?;
+        Refusal::NoNumberLeft.unless(self.table.count < NODES)?;
         Refusal::WrongChildren.unless(form.takes(children.len()))?;
         Refusal::NoNode.unless(self.table.are_nodes(children))?;
         Refusal::InUse.unless(self.table.are_free(children))?;
@@ -90,5 +112,5 @@ impl<P: Performance, W: Weight> Diagram<P, W> {
 fn may_be_states(n: usize) -> bool
     ensures { IsTrue result ↔ EnoughStates n }
 {
-    (1..=64).contains(&n)
+    (1..=TERMS).contains(&n)
 }

@@ -1,9 +1,11 @@
 // Collecting: the row of a joined node from the rows of its children.
 ghost use Rattle.diagram.specs.Shown.{records};
 ghost use Rattle.diagram.specs.Calls.{Collected};
+ghost use Rattle.diagram.specs.InTurn.{CollectsInTurn, CollectsAll};
 
-use super::{Diagram, STORE};
-use crate::refusal::Refusal;
+use super::Diagram;
+use crate::limits::STORE;
+use crate::refusal::{Refusal, RefusedAt};
 use crate::work::work_out;
 use kinds::performance::Performance;
 use kinds::weight::Weight;
@@ -22,5 +24,21 @@ impl<P: Performance, W: Weight> Diagram<P, W> {
         let size = work_out(&self.table, store, k).ok_or(Refusal::LongResult)?;
         self.table.collect(k, size);
         Ok(size)
+    }
+
+    /// Works out the row of every joined node, by rising number, as by a call of `collect` for
+    /// each. All nodes are then up to date. The first refusal ends it, and is told with its node.
+    pub fn collect_all(&mut self, store: &mut [Term<P, W>]) -> Result<(), RefusedAt>
+        ensures in_turn { CollectsInTurn P.Performance W.Weight self.old store.old result self.new store.new }
+        ensures in_runs { CollectsAll P.Performance W.Weight self.old store.old result self.new store.new }
+    {
+        for k in 0..self.table.count {
+            if self.table.nodes[k].form.is_joined() {
+                if let Err(refusal) = self.collect(store, k) {
+                    return Err(RefusedAt { node: k, refusal });
+                }
+            }
+        }
+        Ok(())
     }
 }

@@ -3,7 +3,8 @@ ghost use Rattle.diagram.specs.Calls.{Made};
 ghost use Rattle.diagram.specs.Shown.{records};
 ghost use Rattle.diagram.specs.Runs.{AnswersRight, AnswersAlike};
 
-use super::{Diagram, STORE};
+use super::Diagram;
+use crate::limits::STORE;
 use crate::refusal::Refusal;
 use crate::table::Table;
 use kinds::performance::Performance;

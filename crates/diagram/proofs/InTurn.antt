@@ -1,0 +1,170 @@
+-- Joined nodes collected in turn, after any run: what the first refusal is, and which rows are left.
+use Rattle.std.proofs.Common.{◌≡◌, ◌≢◌, ℕ, ◌+◌, ◌<◌, ◌≤◌, ◌⊎◌, List, ◌∷◌, length, All, Result, Ok, Err, sym, ◌∙◌, ap, refl, subst, inl, inr, arith}
+use borrow.Author.Count.{below_more}
+use Rattle.kinds.specs.declared.performance.Performance
+use Rattle.kinds.specs.declared.weight.Weight
+use Rattle.kinds.proofs.Lawful.{Kind, Weighing}
+use Rattle.terms.specs.declared.term.Term.{Term}
+use Rattle.terms.specs.Drawings.{part}
+use Rattle.terms.specs.Enumeration.{enumeration}
+use Rattle.diagram.specs.declared.diagram.Diagram.{Diagram}
+use Rattle.diagram.specs.declared.limits.TheConstants.{STORE}
+use Rattle.diagram.specs.declared.node.Form.TheVariants.{Part}
+use Rattle.diagram.specs.declared.refusal.Refusal.{Refusal}
+use Rattle.diagram.specs.declared.refusal.Refusal.TheVariants.{LongArm, LongResult}
+use Rattle.diagram.specs.declared.refusal.RefusedAt.{RefusedAt}
+use Rattle.diagram.specs.Refusals.{Asked}
+use Rattle.diagram.specs.Calls.{Collected}
+use Rattle.diagram.specs.Histories.{collecting, number, Reply, Entry, History, collecting_by, made, making_of, drawing_of, states_of, children_of, IsPart, Answers}
+use Rattle.diagram.specs.InTurn.{CollectedTo, none_yet, past_part, one_more, CollectsInTurn, Short, TooLong, FirstAnswer, Leaves, CollectsAll}
+use Rattle.diagram.specs.Records.{form_at, children_at}
+use Rattle.diagram.specs.RightAnswers.{RightAnswer, RowOfNode, ArmsShort, ResultsShort}
+use Rattle.diagram.specs.Runs.{told, Run, next}
+use Rattle.diagram.specs.Shown.{records}
+use Rattle.diagram.specs.Store.{Kept}
+use Rattle.diagram.proofs.Drawn.{drawn_form}
+use Rattle.diagram.proofs.Promise.{run_right}
+use Rattle.diagram.proofs.Questions.{HoldsAfter, part_question, children_same}
+use Rattle.diagram.proofs.Since.{since_now, since_kept}
+use Rattle.diagram.proofs.Standing.{rows_stand, kept_same, kept_on, kept_more, collected_kept, collecting_refused}
+
+granted : {q refused rest : Type 0} → q → Asked q refused rest → rest
+granted q (inl x) = x.1
+granted q (inr x) = absurd (x.0 q)
+
+given : {A B q rest : Type 0} {a : A} {e : B} → Asked q (Ok a ≡ Err e) rest → q × rest
+given (inl x) = x
+given (inr x) = let e = x.1 in absurd (cc)
+
+module _ {P W : Type 0} (kind : Performance.Ghosts P) (weights : Weight.Ghosts W) (laws : Kind kind) (weigh : Weighing weights) where
+  abbrev Terms : Type 0
+  Terms = List (Term P W)
+
+  module _ (h : History P W) where
+    -- after more calls all is as before them, and the first n nodes are short enough and answer
+    record Through (n : ℕ) (calls : History P W) : Type 0 where
+      first : FirstAnswer kind weights h n calls
+      short : (j : ℕ) → j < n → Short kind weights h j
+
+    abbrev entry : ℕ → ℕ → Reply P W → Entry P W
+    entry k lent reply = record { call = collecting k; lent = lent; reply = reply }
+
+    -- an answer keeps through a collecting
+    answers_on : (calls : History P W) (j k lent : ℕ) (reply : Reply P W) → Answers calls j → Answers (entry k lent reply ∷ calls) j
+    answers_on calls j k lent reply (inl p) = inl p
+    answers_on calls j k lent reply (inr c) = inr (since_kept (entry k lent reply) calls j refl (λ p states is. absurd (cc)) c)
+
+    first_on : (n : ℕ) (calls : History P W) (k lent : ℕ) (reply : Reply P W) → FirstAnswer kind weights h n calls → FirstAnswer kind weights h n (entry k lent reply ∷ calls)
+    first_on n calls k lent reply f =
+        record { nodes = f.nodes; makings = f.makings; drawings = f.drawings; states = f.states; answer = λ j l. answers_on calls j k lent reply (f.answer j l) }
+
+    through_more : (n : ℕ) (calls : History P W) → FirstAnswer kind weights h n calls → ((j : ℕ) → j < n → Short kind weights h j) → Short kind weights h n → Answers calls n → Through (n + 1) calls
+    through_more n calls f short now answers = record {
+      first = record { nodes = f.nodes; makings = f.makings; drawings = f.drawings; states = f.states; answer = below_more (Answers calls) n f.answer answers };
+      short = below_more (Short kind weights h) n short now;
+    }
+
+    part_short : (n : ℕ) → IsPart h n → drawing_of h n ≡ part n → Short kind weights h n
+    part_short n p d = (
+      λ a b c d e is. absurd (let z = sym p.1 ∙ is in cc),
+      λ row x. let i = rw d at x in absurd (omega (arith, i.1.1)),
+    )
+
+    module _ (d : Diagram P W) (s : Terms) (run : Run kind weights h d s) (roomy : STORE ≤ length s) where
+      record Reached (n : ℕ) (d' : Diagram P W) (s' : Terms) : Type 0 where
+        calls : History P W
+        so_far : Run kind weights calls d' s'
+        through : Through n calls
+        long : length s' ≡ length s
+        kept : Kept (λ j. j < n) s s'
+
+      holds : (calls : History P W) (d' : Diagram P W) (s' : Terms) → Run kind weights calls d' s' → HoldsAfter kind weights calls (records d') s'
+      holds calls d' s' so_far = (run_right kind weights laws weigh calls d' s' so_far).1
+
+      -- a collecting more: the run goes on, and its answer is right
+      module _ {n : ℕ} {d' : Diagram P W} {s' s'' : Terms} (at : Reached n d' s') (d'' : Diagram P W) (r : Result ℕ Refusal) (x : Collected kind weights (records d') s' n r (records d'') s'') where
+        goes_on : Run kind weights (entry n (length s') (told number r) ∷ at.calls) d'' s''
+        goes_on = next (collecting n) s' s'' (told number r) at.so_far (omega (arith, roomy, at.long)) refl (r, x, refl)
+
+        right : RightAnswer kind weights at.calls (told number r) (collecting n)
+        right = granted (omega (arith, roomy, at.long)) (run_right kind weights laws weigh _ d'' s'' goes_on).0.0
+
+      reached : {n : ℕ} {d' : Diagram P W} {s' : Terms} → n ≤ made h → CollectedTo kind weights d s n d' s' → Reached n d' s'
+      reached few none_yet = record {
+        calls = h;
+        so_far = run;
+        through = record { first = record { nodes = refl; makings = refl; drawings = refl; states = refl; answer = λ j l. absurd (omega (arith, l)) }; short = λ j l. absurd (omega (arith, l)) };
+        long = refl;
+        kept = kept_same refl;
+      }
+      reached few (past_part {n} {d'} {s'} c is) =
+          let at = reached (omega (arith, few)) c in
+          let f = at.through.first in
+          let so = holds at.calls d' s' at.so_far in
+          let node : n < (records d').count = omega (arith, few, f.nodes, so.count) in
+          let p = (part_question kind weights at.calls (records d') s' d'.sound so n node).0 is in
+          let drawn : drawn_form (form_at (records d') n) n (children_at (records d') n) (drawing_of at.calls) ≡ part n = ap (λ form. drawn_form form n (children_at (records d') n) (drawing_of at.calls)) is in
+          let here : drawing_of h n ≡ part n = ap (λ g. g n) (sym f.drawings) ∙ so.drawn n node ∙ drawn in
+          record {
+            calls = at.calls;
+            so_far = at.so_far;
+            through = through_more n at.calls f at.through.short (part_short n (p.0, ap (λ g. g n) (sym f.makings) ∙ p.1) here) (inl p);
+            long = at.long;
+            kept = kept_more (λ j l. omega (arith, l)) at.kept;
+          }
+      reached few (one_more {n} {size} {d'} {d''} {s'} {s''} c x) =
+          let at = reached (omega (arith, few)) c in
+          let f = at.through.first in
+          let said = given (given (given (given (right at d'' (Ok size) x)).1).1).1 in
+          let arms : ArmsShort kind weights h n = rw (f.makings, f.drawings, f.states) at said.0 in
+          let results : ResultsShort kind weights h n = rw (f.drawings, f.states) at (given said.1).0 in
+          let kept = collected_kept kind weights {free = λ j. j < n + 1} (Ok size) (omega arith) x in
+          record {
+            calls = entry n (length s') (Ok (number size)) ∷ at.calls;
+            so_far = goes_on at d'' (Ok size) x;
+            through = through_more n _ (first_on n at.calls n (length s') (Ok (number size)) f) at.through.short (arms, results) (inr (since_now _ at.calls n refl));
+            long = kept.as_long ∙ at.long;
+            kept = kept_on (kept_more (λ j l. omega (arith, l)) at.kept) kept;
+          }
+
+      leaves : (n : ℕ) (calls : History P W) (d' : Diagram P W) (s' : Terms) → n ≤ made h → Run kind weights calls d' s' → FirstAnswer kind weights h n calls → Kept (λ j. j < n) s s' → Leaves kind weights h n s d' s'
+      leaves n calls d' s' few so_far f kept = (
+        rows_stand kind weights laws weigh calls d' s s' so_far
+            (λ k is. (omega (arith, is.0, f.nodes), elim is.1 [ inl p ↦ inl (p.0, ap (λ g. g k) f.makings ∙ p.1) | inr l ↦ f.answer k l ], λ i. enumeration kind weights (f.states i) (f.drawings i k)))
+            (kept_more (λ j l. (omega (arith, l, few), inr l)) kept),
+        (calls, so_far, f),
+      )
+
+      stopped : {k : ℕ} {why : Refusal} {between d' : Diagram P W} {left s' : Terms} → k < made h → CollectedTo kind weights d s k between left → form_at (records between) k ≢ Part →
+          Collected kind weights (records between) left k (Err why) (records d') s' → ((j : ℕ) → j < k → Short kind weights h j) × TooLong kind weights h k why × Leaves kind weights h k s d' s'
+      stopped {k} {why} {between} {d'} {left} {s'} node c joined x =
+          let at = reached (omega (arith, node)) c in
+          let f = at.through.first in
+          let so = holds at.calls between left at.so_far in
+          let there : k < (records between).count = omega (arith, node, f.nodes, so.count) in
+          let no_part : ¬ IsPart at.calls k = λ p. joined ((part_question kind weights at.calls (records between) left between.sound so k there).1 p) in
+          let below : All (λ c. c < k) (children_of at.calls k) = subst (All (λ c. c < k)) (sym (children_same kind weights at.calls (records between) left between.sound so k there)) (between.sound.at k there).own.children_below in
+          let asked = granted (λ j i u. f.answer _ (below j i u)) (granted no_part (granted (omega (arith, node, f.nodes)) (right at d' (Err why) x))) in (
+            at.through.short,
+            long (rw (f.makings, f.drawings, f.states) at asked),
+            leaves k _ d' s' (omega (arith, node)) (goes_on at d' (Err why) x) (first_on k at.calls k (length left) (Err why) f) (kept_on at.kept (collecting_refused kind weights x)),
+          )
+        where
+          err_same : {why why' : Refusal} → ◌≡◌ {A = Reply P W} (Err why) (Err why') → why ≡ why'
+          err_same {why} e = cc e
+
+          long : Asked (ArmsShort kind weights h k) (◌≡◌ {A = Reply P W} (Err why) (Err LongArm)) (Asked (ResultsShort kind weights h k) (◌≡◌ {A = Reply P W} (Err why) (Err LongResult)) ((row : Terms) × RowOfNode kind weights h k row × ◌≡◌ {A = Reply P W} (Err why) (Ok (number (length row))))) → TooLong kind weights h k why
+          long (inr (n, is)) = inl (n, err_same is)
+          long (inl (a, inr (n, is))) = inr (a, n, err_same is)
+          long (inl (a, inl (b, (row, of, is)))) = absurd (cc)
+
+  -- so it is after every run
+  pub in_runs : (d d' : Diagram P W) (s s' : Terms) (r : Result (Unit {0}) RefusedAt) → CollectsInTurn kind weights d s r d' s' → CollectsAll kind weights d s r d' s'
+  in_runs d d' s s' (Ok _) c h run roomy =
+      let all : (records d).count ≡ made h = (holds h d s run roomy h d s run).count in
+      let at = reached h d s run roomy (omega arith) (subst (λ n. CollectedTo kind weights d s n d' s') all c) in
+      inr (at.through.short, (refl, leaves h d s run roomy (made h) at.calls d' s' (omega arith) at.so_far at.through.first at.kept))
+  in_runs d d' s s' (Err at) (between, left, c, node, joined, x) h run roomy =
+      let all = (holds h d s run roomy h d s run).count in
+      let it = stopped h d s run roomy (omega (arith, node, all)) c joined x in
+      inl (at.node, at.refusal, omega (arith, node, all), it.0, it.1, (refl, it.2))

@@ -1,0 +1,32 @@
+use Rattle.std.proofs.Common.{◌≡◌, Ok, Err, sym, subst, arith}
+use Rattle.std.proofs.lemmas.Bool.{true≢false}
+use Rattle.kinds.proofs.Lawful.{lawful_kind, lawful_weight}
+use Rattle.diagram.specs.InTurn.{CollectedTo, none_yet, past_part, one_more}
+use Rattle.diagram.proofs.Facts.{part_unless}
+use Rattle.diagram.proofs.InTurn.{in_runs}
+use Rattle.diagram.proofs.diagram.Diagram.collect_all.Goals as goal
+use Rattle.diagram.proofs.diagram.Diagram.collect_all.Goals.{then-is_joined+in_default, else-is_joined}
+
+pub loop-k-init : goal.loop-k-init
+loop-k-init g c = none_yet
+
+pub returns-in-Err-clause-in_turn : goal.returns-in-Err-clause-in_turn
+returns-in-Err-clause-in_turn g c =
+    (c.loop-k.self, c.loop-k.store, c.loop-k.invariant, c.loop-k-test.true, c.is_joined.ensures.0 c.if-is_joined.true, rw c.in-Err.is at c.collect.ensures)
+
+pub returns-in-Err-clause-in_runs : goal.returns-in-Err-clause-in_runs
+returns-in-Err-clause-in_runs g c = in_runs _ _ (lawful_kind g.met.P.Performance) (lawful_weight g.met.W.Weight) _ _ _ _ (Err _) (returns-in-Err-clause-in_turn g c)
+
+pub loop-k-preserved : goal.loop-k-preserved
+loop-k-preserved g c = elim c.if-is_joined.branch [
+  | then-is_joined+in_default w ↦ rw (w.self-is, w.store-is) (one_more c.loop-k.invariant (rw w.in_default.is at w.collect.ensures))
+  | else-is_joined w ↦ rw (w.self-is, w.store-is) (past_part c.loop-k.invariant (part_unless _ (λ joined. absurd (true≢false (sym (w.if-is_joined.ensures.1 joined))))))
+]
+
+pub returns-clause-in_turn : goal.returns-clause-in_turn
+returns-clause-in_turn g c =
+    let all : c.loop-k.k ≡ c.args.self.now.table.count = omega (arith, c.loop-k-test.false, c.loop-k.auto.k-end) in
+    subst (λ n. CollectedTo g.P.Performance g.W.Weight c.args.self.now c.args.store.now n c.loop-k.self c.loop-k.store) all c.loop-k.invariant
+
+pub returns-clause-in_runs : goal.returns-clause-in_runs
+returns-clause-in_runs g c = in_runs _ _ (lawful_kind g.met.P.Performance) (lawful_weight g.met.W.Weight) _ _ _ _ (Ok _) (returns-clause-in_turn g c)

@@ -1,0 +1,78 @@
+-- Collecting every joined node of a diagram, by rising number.
+use Rattle.std.specs.Prelude.{◌≡◌, ◌≢◌, ℕ, ◌+◌, ◌<◌, ◌≤◌, ◌⊎◌, List, length, Result, Ok, Err}
+use Rattle.kinds.specs.declared.performance.Performance
+use Rattle.kinds.specs.declared.weight.Weight
+use Rattle.terms.specs.declared.term.Term.{Term}
+use Rattle.terms.specs.Enumeration.{enumeration}
+use Rattle.diagram.specs.declared.diagram.Diagram.{Diagram}
+use Rattle.diagram.specs.declared.limits.TheConstants.{STORE}
+use Rattle.diagram.specs.declared.node.Form.TheVariants.{Part}
+use Rattle.diagram.specs.declared.refusal.Refusal.{Refusal}
+use Rattle.diagram.specs.declared.refusal.Refusal.TheVariants.{LongArm, LongResult}
+use Rattle.diagram.specs.declared.refusal.RefusedAt.{RefusedAt}
+use Rattle.diagram.specs.Calls.{Collected}
+use Rattle.diagram.specs.Histories.{History, made, making_of, drawing_of, states_of, IsPart, Answers}
+use Rattle.diagram.specs.Records.{form_at}
+use Rattle.diagram.specs.RightAnswers.{ArmsShort, ResultsShort}
+use Rattle.diagram.specs.Runs.{Run}
+use Rattle.diagram.specs.Shown.{records}
+use Rattle.diagram.specs.Standing.{RowsStand}
+
+module _ {P W : Type 0} (kind : Performance.Ghosts P) (weights : Weight.Ghosts W) where
+  abbrev Terms : Type 0
+  Terms = List (Term P W)
+
+  module _ (d : Diagram P W) (s : Terms) where
+    -- the joined ones of the first n nodes are collected, one after the other, which leaves this diagram and this store
+    pub data CollectedTo : ℕ → Diagram P W → Terms → Type 0 where
+      none_yet : CollectedTo 0 d s
+      past_part : {n : ℕ} {d' : Diagram P W} {s' : Terms} → CollectedTo n d' s' → form_at (records d') n ≡ Part → CollectedTo (n + 1) d' s'
+      one_more :
+          {n size : ℕ} {d' d'' : Diagram P W} {s' s'' : Terms} →
+          CollectedTo n d' s' → Collected kind weights (records d') s' n (Ok size) (records d'') s'' → CollectedTo (n + 1) d'' s''
+
+    -- so all are, or up to one that is refused
+    abbrev pub CollectsInTurn : Result (Unit {0}) RefusedAt → Diagram P W → Terms → Type 0
+    CollectsInTurn (Ok _) d' s' = CollectedTo (records d).count d' s'
+    CollectsInTurn (Err at) d' s' =
+        (between : Diagram P W) × (left : Terms) × CollectedTo at.node between left
+        × (at.node < (records d).count) × (form_at (records between) at.node ≢ Part)
+        × Collected kind weights (records between) left at.node (Err at.refusal) (records d') s'
+
+  module _ (h : History P W) where
+    -- the rows of the arms of node k, if it is a bridge, and its running results are short enough
+    abbrev pub Short : ℕ → Type 0
+    Short k = ArmsShort kind weights h k × ResultsShort kind weights h k
+
+    -- the first no that the collecting of node k is told
+    abbrev pub TooLong : ℕ → Refusal → Type 0
+    TooLong k why = ((¬ ArmsShort kind weights h k) × (why ≡ LongArm)) ⊎ (ArmsShort kind weights h k × (¬ ResultsShort kind weights h k) × (why ≡ LongResult))
+
+    -- every joined node is collected, by rising number: the first that is too long is refused
+    abbrev pub AllCollected : (ℕ → Refusal → Type 0) → Type 0 → Type 0
+    AllCollected refused rest =
+        ((k : ℕ) × (why : Refusal) × (k < made h) × ((j : ℕ) → j < k → Short j) × TooLong k why × refused k why)
+        ⊎ (((k : ℕ) → k < made h → Short k) × rest)
+
+    -- Of the nodes, the parts and the joined ones below n have the rows of their enumerations in their places; nothing else has changed but the
+    -- working rows and the rest of these places.
+    abbrev pub RowsLeft : ℕ → Terms → Terms → Type 0
+    RowsLeft n = RowsStand kind weights (λ k. (k < made h) × (IsPart h k ⊎ (k < n))) (λ k. enumeration kind weights (states_of h) (drawing_of h k))
+
+    -- after these calls the nodes are as after those, and the first n of them answer
+    pub record FirstAnswer (n : ℕ) (h' : History P W) : Type 0 where
+      pub nodes : made h' ≡ made h
+      pub makings : making_of h' ≡ making_of h
+      pub drawings : drawing_of h' ≡ drawing_of h
+      pub states : states_of h' ≡ states_of h
+      pub answer : (k : ℕ) → k < n → Answers h' k
+
+    -- what is left once the joined ones of the first n nodes are collected
+    abbrev pub Leaves : ℕ → Terms → Diagram P W → Terms → Type 0
+    Leaves n s d' s' = RowsLeft n s s' × ((h' : History P W) × Run kind weights h' d' s' × FirstAnswer n h')
+
+  -- after whatever calls: all joined nodes are collected, and all nodes answer; or one is too long, and all below it answer
+  abbrev pub CollectsAll : Diagram P W → Terms → Result (Unit {0}) RefusedAt → Diagram P W → Terms → Type 0
+  CollectsAll d s r d' s' =
+      (h : History P W) → Run kind weights h d s → STORE ≤ length s →
+      AllCollected h (λ k why. (r ≡ Err (record { node = k; refusal = why })) × Leaves h k s d' s') ((r ≡ Ok tt) × Leaves h (made h) s d' s')
