@@ -3,7 +3,7 @@ use Rattle.std.proofs.Common.{◌≡◌, ℕ, ◌+◌, ◌/◌, min, bit_and, bi
 use Rattle.std.proofs.Math.Arith.{bin_ind}
 use Rattle.std.proofs.lemmas.Nat.{or_comm, and_assoc}
 use Rattle.std.specs.Int.Bits.{or_zero_l}
-use Rattle.kinds.specs.Bitwise.{by_digits, or_half, or_low, and_half, and_low, or_assoc}
+use Rattle.kinds.specs.BitLaws.{by_digits, or_half, or_low, and_half, and_low, or_assoc}
 use Rattle.kinds.specs.Named.{Flow, Delay, FaultSet}
 use Rattle.kinds.specs.Flows.{flow_bridge}
 use Rattle.kinds.specs.Delays.{delay_bridge}

@@ -1,8 +1,8 @@
--- What the outer arms of the named kinds come to: what passes without arm c, and what c adds to, of which no more than that counts.
+-- Outer arms come to what passes without arm c, and what c adds to, of which no more counts.
 use Rattle.std.proofs.Common.{◌≡◌, ℕ, ◌+◌, ◌≤◌, ◌/◌, min, arith, ap, sym, ◌∙◌}
 use Rattle.std.proofs.Math.Arith.{bin_ind}
 use Rattle.std.specs.Int.Bits.{or_zero_l, and_zero_l}
-use Rattle.kinds.specs.Bitwise.{by_digits, or_half, or_low, and_half, and_low}
+use Rattle.kinds.specs.BitLaws.{by_digits, or_half, or_low, and_half, and_low}
 use Rattle.kinds.specs.Capped.{top32, capped}
 use Rattle.kinds.specs.Caps.{min_capped}
 use Rattle.kinds.specs.Fits.{fits_below}
@@ -17,17 +17,17 @@ use Rattle.kinds.specs.declared.word.Word.{Word}
 use Rattle.kinds.specs.declared.performance.OuterArms.{OuterArms}
 use Rattle.kinds.proofs.Crossing.{◌∩◌, ◌∪◌, flow_crossed, delay_crossed, faults_crossed}
 
--- four arms around which a bridge is `without`, joined with what c adds to `with`
+-- four arms around which a bridge is `without`, joined with what c adds to `around`
 abbrev pub word_arms : {Of : Type 0} → Word Of → Word Of → OuterArms (Word Of)
-word_arms without with = outer_arms zero_word without without with
+word_arms without around = outer_arms zero_word without without around
 
 -- capped sums
 
 sum_without : (w x : ℕ) → w ≤ top32 → min (capped top32 (0 + w)) (capped top32 (w + x)) ≡ w
 sum_without w x h = omega (arith, h)
 
-sum_with : (w y : ℕ) → w ≤ top32 → min (capped top32 (0 + min y w)) (capped top32 (w + w)) ≡ min y w
-sum_with w y h = omega (arith, h)
+sum_around : (w y : ℕ) → w ≤ top32 → min (capped top32 (0 + min y w)) (capped top32 (w + w)) ≡ min y w
+sum_around w y h = omega (arith, h)
 
 no_more_counts : (w y c : ℕ) → min w (capped top32 (min y w + c)) ≡ min w (capped top32 (y + c))
 no_more_counts w y c = omega arith
@@ -35,7 +35,7 @@ no_more_counts w y c = omega arith
 sums_settled : (w y c : ℕ) → w ≤ top32 → min (min (capped top32 (0 + w)) (capped top32 (w + min y w))) (capped top32 (min (capped top32 (0 + min y w)) (capped top32 (w + w)) + c)) ≡ min w (capped top32 (y + c))
 sums_settled w y c h =
     ap (λ z. min z (capped top32 (min (capped top32 (0 + min y w)) (capped top32 (w + w)) + c))) (sum_without w (min y w) h)
-    ∙ ap (λ z. min w (capped top32 (z + c))) (sum_with w y h)
+    ∙ ap (λ z. min w (capped top32 (z + c))) (sum_around w y h)
     ∙ no_more_counts w y c
 
 cuts_of_two : (a b d e : ℕ) → min (min (a + e) (b + d)) (min (a + b) (d + e)) ≡ min a d + min b e
@@ -54,35 +54,35 @@ none_of w y h = omega (arith, h)
 abbrev flow_without : OuterArms Flow → Flow
 flow_without p = smaller (word_sum p.a p.b) (word_sum p.d p.e)
 
-abbrev flow_with : OuterArms Flow → Flow
-flow_with p = smaller (word_sum p.a p.e) (word_sum p.b p.d)
+abbrev flow_around : OuterArms Flow → Flow
+flow_around p = smaller (word_sum p.a p.e) (word_sum p.b p.d)
 
-pub flow_reduced : (p : OuterArms Flow) → SameAround smaller word_sum flow_bridge p (word_arms (flow_without p) (smaller (flow_with p) (flow_without p)))
+pub flow_reduced : (p : OuterArms Flow) → SameAround smaller word_sum flow_bridge p (word_arms (flow_without p) (smaller (flow_around p) (flow_without p)))
 flow_reduced p =
     let w = flow_without p in
-    let x = smaller (flow_with p) w in
+    let x = smaller (flow_around p) w in
     record {
       around = λ c.
           sym (flow_crossed zero_word w c w x)
-          ∙ word_same _ _ (sums_settled w.bits (flow_with p).bits c.bits (fits_below w.bits w.fits))
+          ∙ word_same _ _ (sums_settled w.bits (flow_around p).bits c.bits (fits_below w.bits w.fits))
           ∙ flow_crossed p.a p.b c p.d p.e;
-      without = word_same _ _ (none_of w.bits (flow_with p).bits (fits_below w.bits w.fits) ∙ cuts_settled p.a.bits p.b.bits p.d.bits p.e.bits);
+      without = word_same _ _ (none_of w.bits (flow_around p).bits (fits_below w.bits w.fits) ∙ cuts_settled p.a.bits p.b.bits p.d.bits p.e.bits);
     }
 
 abbrev delay_without : OuterArms Delay → Delay
 delay_without p = smaller (word_sum p.a p.d) (word_sum p.b p.e)
 
-abbrev delay_with : OuterArms Delay → Delay
-delay_with p = smaller (word_sum p.a p.e) (word_sum p.b p.d)
+abbrev delay_around : OuterArms Delay → Delay
+delay_around p = smaller (word_sum p.a p.e) (word_sum p.b p.d)
 
-pub delay_reduced : (p : OuterArms Delay) → SameAround word_sum smaller delay_bridge p (word_arms (delay_without p) (smaller (delay_with p) (delay_without p)))
+pub delay_reduced : (p : OuterArms Delay) → SameAround word_sum smaller delay_bridge p (word_arms (delay_without p) (smaller (delay_around p) (delay_without p)))
 delay_reduced p =
     let w = delay_without p in
-    let x = smaller (delay_with p) w in
+    let x = smaller (delay_around p) w in
     record {
       around = λ c.
           sym (delay_crossed zero_word w c w x)
-          ∙ word_same _ _ (sums_settled w.bits (delay_with p).bits c.bits (fits_below w.bits w.fits))
+          ∙ word_same _ _ (sums_settled w.bits (delay_around p).bits c.bits (fits_below w.bits w.fits))
           ∙ delay_crossed p.a p.b c p.d p.e;
       without = word_same _ _ (sum_without w.bits x.bits (fits_below w.bits w.fits));
     }
@@ -108,17 +108,17 @@ sets_settled w y c = ap (λ z. z ∩ ((0 ∪ y ∩ w) ∩ (w ∪ w) ∪ c)) (set
 abbrev faults_without : OuterArms FaultSet → FaultSet
 faults_without p = intersection (union p.a p.d) (union p.b p.e)
 
-abbrev faults_with : OuterArms FaultSet → FaultSet
-faults_with p = intersection (union p.a p.e) (union p.b p.d)
+abbrev faults_around : OuterArms FaultSet → FaultSet
+faults_around p = intersection (union p.a p.e) (union p.b p.d)
 
-pub faults_reduced : (p : OuterArms FaultSet) → SameAround union intersection faults_bridge p (word_arms (faults_without p) (intersection (faults_with p) (faults_without p)))
+pub faults_reduced : (p : OuterArms FaultSet) → SameAround union intersection faults_bridge p (word_arms (faults_without p) (intersection (faults_around p) (faults_without p)))
 faults_reduced p =
     let w = faults_without p in
-    let x = intersection (faults_with p) w in
+    let x = intersection (faults_around p) w in
     record {
       around = λ c.
           sym (faults_crossed zero_word w c w x)
-          ∙ word_same _ _ (sets_settled w.bits (faults_with p).bits c.bits)
+          ∙ word_same _ _ (sets_settled w.bits (faults_around p).bits c.bits)
           ∙ faults_crossed p.a p.b c p.d p.e;
       without = word_same _ _ (set_without w.bits x.bits);
     }

@@ -1,9 +1,10 @@
 -- Sums and products that stop at a top.
 use Rattle.std.specs.Prelude.{ℕ, ◌+◌, ◌*◌, min}
+use Rattle.kinds.specs.declared.capped.TheConstants.{TOP32}
 
 -- the largest number of 32 bits
 abbrev pub top32 : ℕ
-top32 = 4294967295
+top32 = TOP32
 
 abbrev pub capped : ℕ → ℕ → ℕ
 capped top n = min n top

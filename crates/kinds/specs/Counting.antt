@@ -7,7 +7,7 @@ use Rattle.kinds.specs.declared.weight.Weight
 abbrev pub whole_numbers : Weight.Ghosts ℕ
 whole_numbers = record { nothing = 0; sum = ◌+◌; product = ◌*◌; is_nothing = λ n. n == 0 }
 
--- A weight is told by its count, up to the top: nothing counts 0, and sums and products count as those of the numbers do, stopped at the top.
+-- weights told by their counts: nothing counts 0, sums and products as the numbers', stopped
 pub record CountsTo {W : Type 0} (top : ℕ) (weights : Weight.Ghosts W) (count : W → ℕ) : Type 0 where
   pub some : 1 ≤ top
   pub at_most : (w : W) → count w ≤ top

@@ -10,13 +10,13 @@ pub mod FirstFaults
 pub mod Pairs
 pub mod OuterArms
 pub mod Outs
-pub mod Members
+pub mod BitSets
 pub mod Declares
 pub mod Words
 pub mod Named
 pub mod Paths
 pub mod WordLaws
 pub mod Caps
-pub mod Bitwise
-pub mod Optional
-pub mod Sides
+pub mod BitLaws
+pub mod OutLaws
+pub mod PairLaws

@@ -3,7 +3,7 @@ use Rattle.kinds.specs.declared.word.Word.{Word}
 use Rattle.kinds.specs.declared.values.Rate.{Rate}
 use Rattle.kinds.specs.declared.values.Time.{Time}
 use Rattle.kinds.specs.declared.values.Classes.{Classes}
-use Rattle.kinds.specs.declared.values.Fault.{Fault}
+use Rattle.kinds.specs.declared.values.FaultNumber.{FaultNumber}
 use Rattle.kinds.specs.declared.values.Count.{Count}
 use Rattle.kinds.specs.declared.values.Members.{Members}
 use Rattle.kinds.specs.declared.values.Cost.{Cost}
@@ -18,7 +18,7 @@ abbrev pub FaultSet : Type 0
 FaultSet = Word Classes
 
 abbrev pub FirstFault : Type 0
-FirstFault = Word Fault
+FirstFault = Word FaultNumber
 
 abbrev pub Parts : Type 0
 Parts = Word Count

@@ -11,8 +11,8 @@ module _ {K : Type 0} (series parallel : K → K → K) (bridge : K → K → K 
     pub around : (c : K) → bridge q.a q.b c q.d q.e ≡ bridge p.a p.b c p.d p.e
     pub without : parallel (series q.a q.d) (series q.b q.e) ≡ parallel (series p.a p.d) (series p.b p.e)
 
-  -- An arm of performance n does as if it were not there: nothing passes in series with it, in parallel the other way alone, and a bridge
-  -- with it as an outer arm is what the other four arms are.
+  -- An arm of performance n does as if it were not there: nothing passes in series with it, in
+  -- parallel the other way alone, and a bridge with it as an outer arm is what the other four are.
   pub record IsAbsent (n : K) : Type 0 where
     pub series_first : (v : K) → series n v ≡ n
     pub series_last : (v : K) → series v n ≡ n

@@ -12,7 +12,7 @@ use Rattle.std.proofs.lemmas.Bool.Decides.{nat_tests}
 use Rattle.std.proofs.lemmas.Cmp.{nat_cmp_total, tied_itself}
 use Rattle.std.proofs.lemmas.Nat.{or_comm, and_comm, and_assoc}
 use mathlib.Core.HLevel.{is_prop→PathP}
-use Rattle.kinds.specs.Bitwise as bits
+use Rattle.kinds.specs.BitLaws as bits
 use Rattle.kinds.specs.Capped.{top32}
 use Rattle.kinds.specs.Caps as caps
 use Rattle.kinds.specs.Fits.{fits_below}

@@ -1,9 +1,15 @@
-// Delay: a time. A series adds up, of parallel ways the faster counts; the largest number is never.
-ghost use Rattle.std.specs.Prelude.{false, IfSome};
+//! Delay: how long it takes. A series adds up, of parallel ways the faster counts; the largest
+//! number is never.
+//!
+//! Series and parallel are those of processing times without work sharing in Levitin, "The
+//! Universal Generating Function in Reliability Analysis and Optimization" (2005).
+ghost use Rattle.std.specs.Prelude.{◌≡◌, false, IfSome};
 ghost use Rattle.kinds.specs.OuterArms.{IsAbsent};
 ghost use Rattle.kinds.specs.Delays.{delay_bridge, delay_meets};
 ghost use Rattle.kinds.specs.Words.{word_compared, smaller, word_sum};
-ghost use Rattle.kinds.specs.WordLaws.{compared_same, compared_itself, compared_swapped, compared_less, smaller_assoc, smaller_comm, sum_assoc, sum_comm};
+ghost use Rattle.kinds.specs.WordLaws.{compared_same, compared_itself};
+ghost use Rattle.kinds.specs.WordLaws.{compared_swapped, compared_less};
+ghost use Rattle.kinds.specs.WordLaws.{smaller_assoc, smaller_comm, sum_assoc, sum_comm};
 
 use crate::capped::TOP32;
 use crate::performance::Performance;
@@ -46,7 +52,6 @@ impl Performance for Delay {
     ghost parallel_commutative = { λ e. smaller_comm };
 
     fn order(self, other: Delay) -> Ordering {
-        // The derived order; `Performance::order` says why it is no supertrait's.
         self.cmp(&other)
     }
 
@@ -58,11 +63,11 @@ impl Performance for Delay {
         self.smaller(other)
     }
 
+    #[tactic(auto, using(crate::proofs::Crossing::delay_crossed))]
     fn in_bridge(a: Delay, b: Delay, c: Delay, d: Delay, e: Delay) -> Delay {
-        // The paths without c, and what c adds to in the other two.
-        let without = a.capped_sum(d).smaller(b.capped_sum(e));
-        let with = a.capped_sum(e).smaller(b.capped_sum(d));
-        without.smaller(with.capped_sum(c))
+        let without = without_c(a, b, d, e);
+        let around = around_c(a, b, d, e);
+        without.smaller(around.capped_sum(c))
     }
 
     fn satisfies(self, demand: Delay) -> bool {
@@ -74,13 +79,13 @@ impl Performance for Delay {
     }
 
     fn reduce(a: &mut Delay, b: &mut Delay, d: &mut Delay, e: &mut Delay) {
-        // As in `in_bridge`; of `with` no more than `without` counts, so it is cut there, and more choices are alike.
-        let without = a.capped_sum(*d).smaller(b.capped_sum(*e));
-        let with = a.capped_sum(*e).smaller(b.capped_sum(*d)).smaller(without);
+        let without = without_c(*a, *b, *d, *e);
+        // Cut at `without`, past which nothing of it counts: so more choices are alike.
+        let around = around_c(*a, *b, *d, *e).smaller(without);
         *a = Delay::new(0);
         *b = without;
         *d = without;
-        *e = with;
+        *e = around;
     }
 
     fn absent() -> Option<Delay>
@@ -88,4 +93,20 @@ impl Performance for Delay {
     {
         Some(Delay::new(TOP32))
     }
+}
+
+// How long the faster of the paths a-d and b-e takes.
+#[inline]
+fn without_c(a: Delay, b: Delay, d: Delay, e: Delay) -> Delay
+    ensures { result ≡ smaller (word_sum a d) (word_sum b e) }
+{
+    a.capped_sum(d).smaller(b.capped_sum(e))
+}
+
+// How long the faster of the paths a-c-e and b-c-d takes beside c.
+#[inline]
+fn around_c(a: Delay, b: Delay, d: Delay, e: Delay) -> Delay
+    ensures { result ≡ smaller (word_sum a e) (word_sum b d) }
+{
+    a.capped_sum(e).smaller(b.capped_sum(d))
 }

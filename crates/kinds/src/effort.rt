@@ -1,6 +1,8 @@
-// Effort: a cost. The sum is the cheaper of two, the product what both cost; the largest number says that it cannot be had.
+//! Effort: a cost. The sum is the cheaper of two, the product what both cost; the largest number
+//! says that it cannot be had.
 ghost use Rattle.kinds.specs.Words.{top_word, holds_number, smaller, word_sum};
-ghost use Rattle.kinds.specs.WordLaws.{only_top, smaller_assoc, smaller_comm, smaller_top, smaller_is_top, sum_assoc, sum_comm, sum_smaller, sum_top};
+ghost use Rattle.kinds.specs.WordLaws.{only_top, smaller_assoc, smaller_comm, smaller_top};
+ghost use Rattle.kinds.specs.WordLaws.{smaller_is_top, sum_assoc, sum_comm, sum_smaller, sum_top};
 ghost use Rattle.std.proofs.Common.{refl};
 ghost use Rattle.kinds.specs.Capped.{top32};
 

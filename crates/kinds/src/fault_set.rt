@@ -1,9 +1,12 @@
-// Fault set: classes of faults. A series shows what either shows, parallel ways what both show.
-ghost use Rattle.std.specs.Prelude.{false, IfSome};
+//! Fault set: classes of faults. A series shows what either shows, parallel ways what both show.
+ghost use Rattle.std.specs.Prelude.{◌≡◌, false, IfSome};
 ghost use Rattle.kinds.specs.OuterArms.{IsAbsent};
 ghost use Rattle.kinds.specs.FaultSets.{faults_bridge, faults_meets};
 ghost use Rattle.kinds.specs.Words.{word_compared, union, intersection};
-ghost use Rattle.kinds.specs.WordLaws.{compared_same, compared_itself, compared_swapped, compared_less, union_assoc, union_comm, intersection_assoc, intersection_comm};
+ghost use Rattle.kinds.specs.WordLaws.{compared_same, compared_itself};
+ghost use Rattle.kinds.specs.WordLaws.{compared_swapped, compared_less};
+ghost use Rattle.kinds.specs.WordLaws.{union_assoc, union_comm};
+ghost use Rattle.kinds.specs.WordLaws.{intersection_assoc, intersection_comm};
 
 use crate::capped::TOP32;
 use crate::performance::Performance;
@@ -46,7 +49,6 @@ impl Performance for FaultSet {
     ghost parallel_commutative = { λ e. intersection_comm };
 
     fn order(self, other: FaultSet) -> Ordering {
-        // The derived order; `Performance::order` says why it is no supertrait's.
         self.cmp(&other)
     }
 
@@ -59,10 +61,9 @@ impl Performance for FaultSet {
     }
 
     fn in_bridge(a: FaultSet, b: FaultSet, c: FaultSet, d: FaultSet, e: FaultSet) -> FaultSet {
-        // The paths without c, and what c adds to in the other two.
-        let without = a.union(d).intersection(b.union(e));
-        let with = a.union(e).intersection(b.union(d));
-        without.intersection(with.union(c))
+        let without = without_c(a, b, d, e);
+        let around = around_c(a, b, d, e);
+        without.intersection(around.union(c))
     }
 
     fn satisfies(self, demand: FaultSet) -> bool {
@@ -74,13 +75,13 @@ impl Performance for FaultSet {
     }
 
     fn reduce(a: &mut FaultSet, b: &mut FaultSet, d: &mut FaultSet, e: &mut FaultSet) {
-        // As in `in_bridge`; of `with` no more than `without` counts, so it is cut there, and more choices are alike.
-        let without = a.union(*d).intersection(b.union(*e));
-        let with = a.union(*e).intersection(b.union(*d)).intersection(without);
+        let without = without_c(*a, *b, *d, *e);
+        // Cut at `without`, past which nothing of it counts: so more choices are alike.
+        let around = around_c(*a, *b, *d, *e).intersection(without);
         *a = FaultSet::new(0);
         *b = without;
         *d = without;
-        *e = with;
+        *e = around;
     }
 
     fn absent() -> Option<FaultSet>
@@ -88,4 +89,20 @@ impl Performance for FaultSet {
     {
         Some(FaultSet::new(TOP32))
     }
+}
+
+// What the paths a-d and b-e both show.
+#[inline]
+fn without_c(a: FaultSet, b: FaultSet, d: FaultSet, e: FaultSet) -> FaultSet
+    ensures { result ≡ intersection (union a d) (union b e) }
+{
+    a.union(d).intersection(b.union(e))
+}
+
+// What the paths a-c-e and b-c-d both show beside c.
+#[inline]
+fn around_c(a: FaultSet, b: FaultSet, d: FaultSet, e: FaultSet) -> FaultSet
+    ensures { result ≡ intersection (union a e) (union b d) }
+{
+    a.union(e).intersection(b.union(d))
 }

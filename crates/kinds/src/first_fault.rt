@@ -1,8 +1,9 @@
-// First fault: the number of the fault met first; 0 is healthy. Order counts.
-ghost use Rattle.std.specs.Prelude.{true};
+//! First fault: the number of the fault that is met first; 0 is healthy. Order counts.
+ghost use Rattle.std.specs.Prelude.{◌≡◌, true};
 ghost use Rattle.kinds.specs.FirstFaults.{first_series, first_parallel, first_bridge, first_meets};
 ghost use Rattle.kinds.specs.Words.{word_compared};
-ghost use Rattle.kinds.specs.WordLaws.{compared_same, compared_itself, compared_swapped, compared_less};
+ghost use Rattle.kinds.specs.WordLaws.{compared_same, compared_itself};
+ghost use Rattle.kinds.specs.WordLaws.{compared_swapped, compared_less};
 ghost use Rattle.std.proofs.Common.{rules};
 
 use crate::performance::Performance;
@@ -45,7 +46,6 @@ impl Performance for FirstFault {
     ghost parallel_commutative = { Prim.search rules };
 
     fn order(self, other: FirstFault) -> Ordering {
-        // The derived order; `Performance::order` says why it is no supertrait's.
         self.cmp(&other)
     }
 
@@ -69,10 +69,10 @@ impl Performance for FirstFault {
         e: FirstFault,
     ) -> FirstFault {
         // A fault in c is met by no path first, but keeps two of them from being healthy.
-        let without = a.in_series(d).in_parallel(b.in_series(e));
-        let with = a.in_series(e).in_parallel(b.in_series(d));
+        let without = without_c(a, b, d, e);
+        let around = around_c(a, b, d, e);
         if c.is_zero() {
-            without.in_parallel(with)
+            without.in_parallel(around)
         } else {
             without
         }
@@ -87,12 +87,28 @@ impl Performance for FirstFault {
     }
 
     fn reduce(a: &mut FirstFault, b: &mut FirstFault, d: &mut FirstFault, e: &mut FirstFault) {
-        // `without` comes first in `with` too: of two faults in parallel the first counts.
-        let without = a.in_series(*d).in_parallel(b.in_series(*e));
-        let with = without.in_parallel(a.in_series(*e).in_parallel(b.in_series(*d)));
+        // Of two faults in parallel the first counts, so `without` stands before `around`.
+        let without = without_c(*a, *b, *d, *e);
+        let around = without.in_parallel(around_c(*a, *b, *d, *e));
         *a = FirstFault::new(0);
         *b = without;
         *d = without;
-        *e = with;
+        *e = around;
     }
+}
+
+// What is met first on the paths a-d and b-e.
+#[inline]
+fn without_c(a: FirstFault, b: FirstFault, d: FirstFault, e: FirstFault) -> FirstFault
+    ensures { result ≡ first_parallel (first_series a d) (first_series b e) }
+{
+    a.in_series(d).in_parallel(b.in_series(e))
+}
+
+// What is met first on the paths a-c-e and b-c-d where c is healthy.
+#[inline]
+fn around_c(a: FirstFault, b: FirstFault, d: FirstFault, e: FirstFault) -> FirstFault
+    ensures { result ≡ first_parallel (first_series a e) (first_series b d) }
+{
+    a.in_series(e).in_parallel(b.in_series(d))
 }

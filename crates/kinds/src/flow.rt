@@ -1,9 +1,14 @@
-// Flow: a rate. A series passes the smaller, parallel ways add up.
-ghost use Rattle.std.specs.Prelude.{false, IfSome};
+//! Flow: what passes in a unit of time. A series passes the smaller, parallel ways add up.
+//!
+//! Series and parallel are those of flow transmission with dispersion in Levitin, "The Universal
+//! Generating Function in Reliability Analysis and Optimization" (2005).
+ghost use Rattle.std.specs.Prelude.{◌≡◌, false, IfSome};
 ghost use Rattle.kinds.specs.OuterArms.{IsAbsent};
 ghost use Rattle.kinds.specs.Flows.{flow_bridge, flow_meets};
 ghost use Rattle.kinds.specs.Words.{word_compared, smaller, word_sum};
-ghost use Rattle.kinds.specs.WordLaws.{compared_same, compared_itself, compared_swapped, compared_less, smaller_assoc, smaller_comm, sum_assoc, sum_comm};
+ghost use Rattle.kinds.specs.WordLaws.{compared_same, compared_itself};
+ghost use Rattle.kinds.specs.WordLaws.{compared_swapped, compared_less};
+ghost use Rattle.kinds.specs.WordLaws.{smaller_assoc, smaller_comm, sum_assoc, sum_comm};
 
 use crate::performance::Performance;
 use crate::values::Flow;
@@ -45,7 +50,6 @@ impl Performance for Flow {
     ghost parallel_commutative = { λ e. sum_comm };
 
     fn order(self, other: Flow) -> Ordering {
-        // The derived order; `Performance::order` says why it is no supertrait's.
         self.cmp(&other)
     }
 
@@ -57,11 +61,12 @@ impl Performance for Flow {
         self.capped_sum(other)
     }
 
+    #[tactic(auto, using(crate::proofs::Crossing::flow_crossed))]
     fn in_bridge(a: Flow, b: Flow, c: Flow, d: Flow, e: Flow) -> Flow {
-        // The cuts without c, and what c adds to in the other two: with the other arms picked, only the last line is left for each c.
-        let without = a.capped_sum(b).smaller(d.capped_sum(e));
-        let with = a.capped_sum(e).smaller(b.capped_sum(d));
-        without.smaller(with.capped_sum(c))
+        // With the other arms picked, only the last line is left for each c.
+        let without = without_c(a, b, d, e);
+        let around = around_c(a, b, d, e);
+        without.smaller(around.capped_sum(c))
     }
 
     fn satisfies(self, demand: Flow) -> bool {
@@ -73,13 +78,13 @@ impl Performance for Flow {
     }
 
     fn reduce(a: &mut Flow, b: &mut Flow, d: &mut Flow, e: &mut Flow) {
-        // The cuts without c, and what c adds to in the other two: cut at the first, past which nothing of it counts.
-        let without = a.capped_sum(*b).smaller(d.capped_sum(*e));
-        let with = a.capped_sum(*e).smaller(b.capped_sum(*d)).smaller(without);
+        let without = without_c(*a, *b, *d, *e);
+        // Cut at `without`, past which nothing of it counts: so more choices are alike.
+        let around = around_c(*a, *b, *d, *e).smaller(without);
         *a = Flow::new(0);
         *b = without;
         *d = without;
-        *e = with;
+        *e = around;
     }
 
     fn absent() -> Option<Flow>
@@ -87,4 +92,20 @@ impl Performance for Flow {
     {
         Some(Flow::new(0))
     }
+}
+
+// What the cuts a-b and d-e let pass.
+#[inline]
+fn without_c(a: Flow, b: Flow, d: Flow, e: Flow) -> Flow
+    ensures { result ≡ smaller (word_sum a b) (word_sum d e) }
+{
+    a.capped_sum(b).smaller(d.capped_sum(e))
+}
+
+// What the cuts a-c-e and b-c-d let pass beside c.
+#[inline]
+fn around_c(a: Flow, b: Flow, d: Flow, e: Flow) -> Flow
+    ensures { result ≡ smaller (word_sum a e) (word_sum b d) }
+{
+    a.capped_sum(e).smaller(b.capped_sum(d))
 }

@@ -1,4 +1,8 @@
-// Kinds of performance and of weight: what they are, and the named ones.
+//! Kinds of performance and of weight: what they are, and the named ones.
+//!
+//! Performances with weights are what Ushakov, "Handbook of Reliability Engineering" (1994), calls
+//! a generalized generating sequence, and Levitin, "The Universal Generating Function in
+//! Reliability Analysis and Optimization" (2005), a universal generating function.
 #![tactic(auto)]
 
 pub mod capped;

@@ -1,8 +1,9 @@
-// A kind with one more value, out: no service at all.
+//! A kind with one more value, out: no service at all.
 ghost use Rattle.std.specs.Prelude.{◌≡◌, IfSome};
-ghost use Rattle.kinds.specs.OuterArms.{outer_arms, SameAround, IsAbsent};
-ghost use Rattle.kinds.specs.Outs.{out_compared, out_series, out_parallel, out_bridge, out_meets, working_arms};
-ghost use Rattle.kinds.specs.Optional.{series_assoc, parallel_assoc, series_comm, parallel_comm};
+ghost use Rattle.kinds.specs.OuterArms.{outer_arms};
+ghost use Rattle.kinds.specs.Outs.{out_compared, out_series, out_parallel, out_bridge, out_meets};
+ghost use Rattle.kinds.specs.Outs.{working_arms, OutAround, OutAbsent};
+ghost use Rattle.kinds.specs.OutLaws.{series_assoc, parallel_assoc, series_comm, parallel_comm};
 ghost use Rattle.std.proofs.Common.{rules};
 
 use crate::performance::{OuterArms, Performance};
@@ -14,19 +15,19 @@ impl<K: Performance> Performance for OrOut<K> {
 
     const PARALLEL_ORDER_COUNTS: bool = K::PARALLEL_ORDER_COUNTS;
 
-    ghost SERIES_ORDER_COUNTS = { K.Performance.SERIES_ORDER_COUNTS };
+    ghost SERIES_ORDER_COUNTS = { K.SERIES_ORDER_COUNTS };
 
-    ghost PARALLEL_ORDER_COUNTS = { K.Performance.PARALLEL_ORDER_COUNTS };
+    ghost PARALLEL_ORDER_COUNTS = { K.PARALLEL_ORDER_COUNTS };
 
-    ghost compared = { out_compared K.Performance.compared };
+    ghost compared = { out_compared K.compared };
 
-    ghost series = { out_series K.Performance.series };
+    ghost series = { out_series K.series };
 
-    ghost parallel = { out_parallel K.Performance.parallel };
+    ghost parallel = { out_parallel K.parallel };
 
-    ghost bridge = { out_bridge K.Performance.series K.Performance.parallel K.Performance.bridge };
+    ghost bridge = { out_bridge K.series K.parallel K.bridge };
 
-    ghost meets = { out_meets K.Performance.meets };
+    ghost meets = { out_meets K.meets };
 
     ghost same_identical = { Prim.search rules };
 
@@ -36,13 +37,13 @@ impl<K: Performance> Performance for OrOut<K> {
 
     ghost less_transitive = { Prim.search rules };
 
-    ghost series_associative = { series_assoc K.Performance.series K.Performance.series_associative };
+    ghost series_associative = { series_assoc K.series K.series_associative };
 
-    ghost parallel_associative = { parallel_assoc K.Performance.parallel K.Performance.parallel_associative };
+    ghost parallel_associative = { parallel_assoc K.parallel K.parallel_associative };
 
-    ghost series_commutative = { λ e. series_comm K.Performance.series (K.Performance.series_commutative e) };
+    ghost series_commutative = { λ e. series_comm K.series (K.series_commutative e) };
 
-    ghost parallel_commutative = { λ e. parallel_comm K.Performance.parallel (K.Performance.parallel_commutative e) };
+    ghost parallel_commutative = { λ e. parallel_comm K.parallel (K.parallel_commutative e) };
 
     fn order(self, other: Self) -> Ordering {
         // No derive: that would compare by `Ord`, which K need not have; K has an order of its own.
@@ -70,7 +71,7 @@ impl<K: Performance> Performance for OrOut<K> {
     }
 
     fn in_bridge(a: Self, b: Self, c: Self, d: Self, e: Self) -> Self {
-        // Little code where all outer arms work; they stay while c is gone through, and a compiler asks them before that loop.
+        // The outer arms stay while c is gone through: a compiler asks them before that loop.
         if let (OrOut::Working(a), OrOut::Working(b), OrOut::Working(d), OrOut::Working(e)) = (
             a, b, d, e,
         ) {
@@ -114,14 +115,14 @@ impl<K: Performance> Performance for OrOut<K> {
     }
 
     fn absent() -> Option<Self>
-        ensures { IfSome result (IsAbsent (out_series K.Performance.series) (out_parallel K.Performance.parallel) (out_bridge K.Performance.series K.Performance.parallel K.Performance.bridge)) }
+        ensures { IfSome result (OutAbsent K.Performance) }
     {
         Some(OrOut::Out)
     }
 }
 
-// The table of docs/KINDS.md, line by line. Apart from `in_bridge`, and cold: it is rare, and within the loop over arm c its code would make
-// every bridge slower.
+// The table of docs/KINDS.md, line by line. Apart from `in_bridge`, and cold: it is rare, and its
+// code within the loop over arm c would make every bridge slower.
 #[cold]
 #[inline(never)]
 fn bridge_with_out<K: Performance>(
@@ -149,51 +150,40 @@ fn bridge_with_out<K: Performance>(
     }
 }
 
-// Outer arms that all work and do the same as these: one that is out is taken for one that is absent, if K tells of any.
+// Outer arms that all work and do the same as these: one that is out is taken for one that is
+// absent, if K tells of any.
 fn inner_arms<K: Performance>(
     a: OrOut<K>,
     b: OrOut<K>,
     d: OrOut<K>,
     e: OrOut<K>,
 ) -> Option<OuterArms<K>>
-    ensures { IfSome result (λ inner. SameAround (out_series K.series) (out_parallel K.parallel) (out_bridge K.series K.parallel K.bridge) (outer_arms a b d e) (working_arms inner)) }
+    ensures { IfSome result (λ inner.
+        OutAround K.Performance (outer_arms a b d e) (working_arms inner)) }
 {
     match (a, b, d, e) {
         (OrOut::Working(a), OrOut::Working(b), OrOut::Working(d), OrOut::Working(e)) => {
-            Some(OuterArms { a, b, d, e })
+            Some(arms(a, b, d, e))
         }
         (OrOut::Out, OrOut::Working(b), OrOut::Working(d), OrOut::Working(e)) => {
-            Some(OuterArms {
-                a: K::absent()?,
-                b,
-                d,
-                e,
-            })
+            Some(arms(K::absent()?, b, d, e))
         }
         (OrOut::Working(a), OrOut::Out, OrOut::Working(d), OrOut::Working(e)) => {
-            Some(OuterArms {
-                a,
-                b: K::absent()?,
-                d,
-                e,
-            })
+            Some(arms(a, K::absent()?, d, e))
         }
         (OrOut::Working(a), OrOut::Working(b), OrOut::Out, OrOut::Working(e)) => {
-            Some(OuterArms {
-                a,
-                b,
-                d: K::absent()?,
-                e,
-            })
+            Some(arms(a, b, K::absent()?, e))
         }
         (OrOut::Working(a), OrOut::Working(b), OrOut::Working(d), OrOut::Out) => {
-            Some(OuterArms {
-                a,
-                b,
-                d,
-                e: K::absent()?,
-            })
+            Some(arms(a, b, d, K::absent()?))
         }
         _ => None,
     }
+}
+
+#[inline]
+fn arms<K: Copy>(a: K, b: K, d: K, e: K) -> OuterArms<K>
+    ensures { result ≡ outer_arms a b d e }
+{
+    OuterArms { a, b, d, e }
 }

@@ -1,8 +1,8 @@
-// The pair of two kinds: each side works by itself, and both must meet.
+//! The pair of two kinds: each side works by itself, and both must meet.
 ghost use Rattle.std.specs.Prelude.{◌≡◌, ◌||◌, IfSome};
-ghost use Rattle.kinds.specs.OuterArms.{IsAbsent};
 ghost use Rattle.kinds.specs.Pairs.{pair_compared, pair_joined, pair_bridge, pair_meets};
-ghost use Rattle.kinds.specs.Sides.{pair_less};
+ghost use Rattle.kinds.specs.Pairs.{PairAbsent};
+ghost use Rattle.kinds.specs.PairLaws.{pair_less};
 ghost use Rattle.std.proofs.Common.{rules};
 
 use crate::performance::Performance;
@@ -14,19 +14,19 @@ impl<A: Performance, B: Performance> Performance for Pair<A, B> {
 
     const PARALLEL_ORDER_COUNTS: bool = A::PARALLEL_ORDER_COUNTS || B::PARALLEL_ORDER_COUNTS;
 
-    ghost SERIES_ORDER_COUNTS = { A.Performance.SERIES_ORDER_COUNTS || B.Performance.SERIES_ORDER_COUNTS };
+    ghost SERIES_ORDER_COUNTS = { A.SERIES_ORDER_COUNTS || B.SERIES_ORDER_COUNTS };
 
-    ghost PARALLEL_ORDER_COUNTS = { A.Performance.PARALLEL_ORDER_COUNTS || B.Performance.PARALLEL_ORDER_COUNTS };
+    ghost PARALLEL_ORDER_COUNTS = { A.PARALLEL_ORDER_COUNTS || B.PARALLEL_ORDER_COUNTS };
 
-    ghost compared = { pair_compared A.Performance.compared B.Performance.compared };
+    ghost compared = { pair_compared A.compared B.compared };
 
-    ghost series = { pair_joined A.Performance.series B.Performance.series };
+    ghost series = { pair_joined A.series B.series };
 
-    ghost parallel = { pair_joined A.Performance.parallel B.Performance.parallel };
+    ghost parallel = { pair_joined A.parallel B.parallel };
 
-    ghost bridge = { pair_bridge A.Performance.bridge B.Performance.bridge };
+    ghost bridge = { pair_bridge A.bridge B.bridge };
 
-    ghost meets = { pair_meets A.Performance.meets B.Performance.meets };
+    ghost meets = { pair_meets A.meets B.meets };
 
     ghost same_identical = { Prim.search rules };
 
@@ -34,7 +34,8 @@ impl<A: Performance, B: Performance> Performance for Pair<A, B> {
 
     ghost swapped = { Prim.search rules };
 
-    ghost less_transitive = { λ a b c. pair_less A.Performance.compared B.Performance.compared A.Performance.same_identical A.Performance.less_transitive B.Performance.less_transitive a b c };
+    ghost less_transitive = { pair_less A.same_identical A.less_transitive
+        B.less_transitive };
 
     ghost series_associative = { Prim.search rules };
 
@@ -45,7 +46,7 @@ impl<A: Performance, B: Performance> Performance for Pair<A, B> {
     ghost parallel_commutative = { Prim.search rules };
 
     fn order(self, other: Self) -> Ordering {
-        // Not `then_with`: with it, a bridge of pairs takes a quarter longer, past the bar of docs/SPEED.md.
+        // Not `then_with`: with it, a bridge of pairs takes a quarter longer.
         match self.first.order(other.first) {
             Ordering::Equal => self.second.order(other.second),
             unequal => unequal,
@@ -87,7 +88,7 @@ impl<A: Performance, B: Performance> Performance for Pair<A, B> {
     }
 
     fn absent() -> Option<Self>
-        ensures { IfSome result (IsAbsent (pair_joined A.Performance.series B.Performance.series) (pair_joined A.Performance.parallel B.Performance.parallel) (pair_bridge A.Performance.bridge B.Performance.bridge)) }
+        ensures { IfSome result (PairAbsent A.Performance B.Performance) }
     {
         Some(pair(A::absent()?, B::absent()?))
     }

@@ -1,6 +1,10 @@
-// Parts: how many of a whole. Sums and products stop at the top.
+//! Parts: how many of a whole. Sums and products stop at the top.
+//!
+//! They add up and multiply as probabilities do in Levitin, "The Universal Generating Function in
+//! Reliability Analysis and Optimization" (2005), but are whole numbers.
 ghost use Rattle.kinds.specs.Words.{zero_word, holds_number, word_sum, word_product};
-ghost use Rattle.kinds.specs.WordLaws.{only_zero, sum_assoc, sum_comm, sum_zero, sum_is_zero, product_assoc, product_comm, product_sum, product_zero};
+ghost use Rattle.kinds.specs.WordLaws.{only_zero, sum_assoc, sum_comm, sum_zero, sum_is_zero};
+ghost use Rattle.kinds.specs.WordLaws.{product_assoc, product_comm, product_sum, product_zero};
 ghost use Rattle.std.proofs.Common.{refl};
 
 use crate::values::Parts;

@@ -1,4 +1,4 @@
-// What a kind of performance is: values, five operations on them, and the laws these keep.
+//! What a kind of performance is: values, five operations on them, and the laws these keep.
 ghost use Rattle.std.specs.Prelude.{◌≡◌, Bool, false, IfSome};
 ghost use Rattle.std.specs.declared.cmp.Ordering.TheVariants.{Less, Equal};
 ghost use Rattle.std.specs.declared.cmp.Ordering.{Ordering};
@@ -8,7 +8,9 @@ ghost use Rattle.kinds.specs.Paths.{by_paths};
 
 use std::cmp::Ordering;
 
-// The outer arms of a bridge, all but arm c.
+/// The outer arms of a bridge, all but arm c.
+///
+/// Arms a and b leave the source, d and e reach the sink, and c joins the middles.
 #[derive(Clone, Copy)]
 pub struct OuterArms<P> {
     pub a: P,
@@ -17,14 +19,17 @@ pub struct OuterArms<P> {
     pub e: P,
 }
 
-// The values of the kind are the values of the type. They are Copy: an operation refuses nothing and changes nothing.
+/// A kind of performance, whose values are those of the type.
+///
+/// They are Copy: an operation refuses nothing and changes nothing.
 pub trait Performance: Copy {
-    // Whether the order of the operands counts, in series and in parallel; where it does not, a law says so. Each is
-    // given twice, as code and as a ghost, and the two are proved equal.
+    /// Whether the order of the operands counts in series; where it does not, a law says so.
     const SERIES_ORDER_COUNTS: bool;
 
+    /// Whether the order of the operands counts in parallel; where it does not, a law says so.
     const PARALLEL_ORDER_COUNTS: bool;
 
+    // the constants once more, for clauses: proved equal to them
     ghost SERIES_ORDER_COUNTS: { Bool };
 
     ghost PARALLEL_ORDER_COUNTS: { Bool };
@@ -34,51 +39,64 @@ pub trait Performance: Copy {
     ghost series: { Self → Self → Self };
 
     ghost parallel: { Self → Self → Self };
+
     // the arms a, b, c, d, e: a and b leave the source, d and e reach the sink, c joins the middles
     ghost bridge: { Self → Self → Self → Self → Self → Self };
+
     // a value held against a demand
     ghost meets: { Self → Self → Bool };
 
-    // Not `Ord` as a supertrait: its ghosts are a record apart, which each definition and clause on a kind would take besides. A
-    // trait for the parameters of `Word`, with one impl of this one, would repeat all but the order.
+    /// The order of the values, which tells Equal exactly of identical ones.
+    ///
+    /// Not `Ord` as a supertrait: each definition on a kind would take its ghosts besides.
     fn order(self, other: Self) -> Ordering
         ensures { result ≡ compared self other };
 
+    /// What one after the other performs.
     fn in_series(self, other: Self) -> Self
         ensures { result ≡ series self other };
 
+    /// What one beside the other performs.
     fn in_parallel(self, other: Self) -> Self
         ensures { result ≡ parallel self other };
 
-    // Five values, so that clauses and each kind's formula name the arms; a struct would be no plainer.
+    /// What a bridge of five arms performs: a and b leave the source, d and e reach the sink, and c
+    /// joins the middles.
     fn in_bridge(a: Self, b: Self, c: Self, d: Self, e: Self) -> Self
         ensures { result ≡ bridge a b c d e };
 
+    /// Whether the value meets a demand.
     fn satisfies(self, demand: Self) -> bool
         ensures { result ≡ meets self demand };
 
-    // A number by which a row remembers where it last found this performance. It decides nothing, so that any number is right; the less
-    // often those of one row are alike, the fewer searches there are.
+    /// A number by which a row remembers where it last found this performance.
+    ///
+    /// Any number is right; the fewer of a row are alike, the fewer searches there are.
     fn slot(self) -> u8 {
         0
     }
 
-    // Changes the outer arms of a bridge to others that do the same around every arm c, and without one. Any such arms are right; the fewer
-    // forms they have, the less often a bridge goes through its arm c. Four borrows, and no struct of the arms: of that the toolchain does
-    // not give impls the clause yet.
+    /// Changes the outer arms of a bridge to others that do the same around every arm c, and
+    /// without one.
+    ///
+    /// Any such arms are right; the fewer forms they have, the less often a bridge goes through its
+    /// arm c. Four borrows: for a struct of the arms the toolchain gives impls no clause.
     fn reduce(a: &mut Self, b: &mut Self, d: &mut Self, e: &mut Self)
-        ensures { SameAround series parallel bridge (outer_arms a.old b.old d.old e.old) (outer_arms a.new b.new d.new e.new) }
+        ensures { SameAround series parallel bridge
+            (outer_arms a.old b.old d.old e.old) (outer_arms a.new b.new d.new e.new) }
     {}
 
-    // A performance of which an arm does as if it were not there, if the kind tells one: a kind with out takes it for an outer arm that is
-    // out, so that fewer choices of outer arms go a way of their own.
+    /// A performance of which an arm does as if it were not there, or None if the kind tells none.
+    ///
+    /// A kind with out takes it for an outer arm that is out.
     fn absent() -> Option<Self>
         ensures { IfSome result (IsAbsent series parallel bridge) }
     {
         None
     }
 
-    // A bridge by its paths, for kinds that want it: a-d, b-e, a-c-e and b-c-d in series, joined in parallel in this order.
+    /// A bridge by its paths, for kinds that want it: a-d, b-e, a-c-e and b-c-d in series, joined
+    /// in parallel in this order.
     fn through_paths(a: Self, b: Self, c: Self, d: Self, e: Self) -> Self
         ensures { result ≡ by_paths series parallel a b c d e }
     {
@@ -95,13 +113,17 @@ pub trait Performance: Copy {
 
     ghost swapped: { (a b : Self) → compared b a ≡ ordering_reverse (compared a b) };
 
-    ghost less_transitive: { (a b c : Self) → compared a b ≡ Less → compared b c ≡ Less → compared a c ≡ Less };
+    ghost less_transitive: { (a b c : Self) →
+        compared a b ≡ Less → compared b c ≡ Less → compared a c ≡ Less };
 
     ghost series_associative: { (a b c : Self) → series (series a b) c ≡ series a (series b c) };
 
-    ghost parallel_associative: { (a b c : Self) → parallel (parallel a b) c ≡ parallel a (parallel b c) };
+    ghost parallel_associative: { (a b c : Self) →
+        parallel (parallel a b) c ≡ parallel a (parallel b c) };
 
-    ghost series_commutative: { SERIES_ORDER_COUNTS ≡ false → (a b : Self) → series a b ≡ series b a };
+    ghost series_commutative: { SERIES_ORDER_COUNTS ≡ false →
+        (a b : Self) → series a b ≡ series b a };
 
-    ghost parallel_commutative: { PARALLEL_ORDER_COUNTS ≡ false → (a b : Self) → parallel a b ≡ parallel b a };
+    ghost parallel_commutative: { PARALLEL_ORDER_COUNTS ≡ false →
+        (a b : Self) → parallel a b ≡ parallel b a };
 }

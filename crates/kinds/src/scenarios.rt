@@ -1,6 +1,8 @@
-// Scenarios: in which of 32 scenarios. The sum is the union, the product the intersection.
+//! Scenarios: in which of 32 scenarios. The sum is the union, the product the intersection.
 ghost use Rattle.kinds.specs.Words.{zero_word, holds_number, union, intersection};
-ghost use Rattle.kinds.specs.WordLaws.{only_zero, union_assoc, union_comm, union_none, union_is_none, intersection_assoc, intersection_comm, intersection_union, intersection_none};
+ghost use Rattle.kinds.specs.WordLaws.{only_zero, union_assoc, union_comm, union_none};
+ghost use Rattle.kinds.specs.WordLaws.{union_is_none, intersection_assoc, intersection_comm};
+ghost use Rattle.kinds.specs.WordLaws.{intersection_union, intersection_none};
 ghost use Rattle.std.proofs.Common.{refl};
 
 use crate::values::Scenarios;

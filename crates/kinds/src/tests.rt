@@ -1,4 +1,4 @@
-// Edge values, run.
+//! Edge values, run.
 use crate::capped::TOP32;
 use crate::declares::order_counts;
 use crate::performance::Performance;
@@ -44,7 +44,7 @@ fn out_in_every_arm(rt: HostRuntime) {
     assert_eq!(rt; OrOut::in_bridge(out, out, c, d, e), out, "arms a and b");
 }
 
-// The constants themselves, since `order_counts` is what is tested; two flags, as it answers them.
+// The constants themselves, since `order_counts` is what is tested.
 fn constants<K: Performance>() -> (bool, bool) {
     (K::SERIES_ORDER_COUNTS, K::PARALLEL_ORDER_COUNTS)
 }

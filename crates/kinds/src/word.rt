@@ -1,4 +1,4 @@
-// A word of 32 bits, of which the named kinds and weights are made.
+//! A word of 32 bits, of which the named kinds and weights are made.
 ghost use Rattle.std.specs.Prelude.{◌≡◌, ◌%◌, ◌^◌, ◌<◌, ⊤, Some, decimal};
 
 use crate::capped::cap;
@@ -6,7 +6,9 @@ use std::alloc::AllocError;
 use std::fmt;
 use std::marker::PhantomData;
 
-// A word of 32 bits; `Of` tells what it is a word of. Words of different things are different types.
+/// A word of 32 bits; `Of` tells what it is a word of.
+///
+/// Words of different things are different types.
 #[derive_where(PartialEq, Eq, PartialOrd, Ord, Debug)]
 #[derive(Drop)]
 pub struct Word<Of> {
@@ -15,7 +17,7 @@ pub struct Word<Of> {
     ghost fits: { bits < 2 ^ 32 },
 }
 
-// By hand: a derive would ask both of `Of`, and `derive_where(Clone, Copy)` is refused beside a ghost field.
+// By hand: a derive asks both of `Of`, and `derive_where` refuses them beside a ghost field.
 impl<Of> Clone for Word<Of> {
     ghost is_clone = { λ x y. y ≡ x };
 
@@ -38,9 +40,10 @@ impl<Of> fmt::Display for Word<Of> {
 
 impl<Of> Word<Of> {
     ghost use Rattle.kinds.specs.Holding.{Holds};
-    ghost use Rattle.kinds.specs.Words.{number, holds_number, smaller, word_sum, word_product, union, intersection};
+    ghost use Rattle.kinds.specs.Words.{number, holds_number, smaller, word_sum, word_product};
+    ghost use Rattle.kinds.specs.Words.{union, intersection};
 
-    // The one place where a value is made. `From<u32>` would be a second way that promises the same.
+    /// The word of a number. Each number has one, and no other way makes one.
     pub fn new(bits: u32) -> Word<Of>
         ensures { Holds number bits result }
     {
@@ -50,7 +53,7 @@ impl<Of> Word<Of> {
         }
     }
 
-    // `From<Word<Of>>` would be a second way that promises the same.
+    /// The number that the word holds.
     pub fn number(self) -> u32
         ensures { result ≡ number self }
     {
@@ -84,7 +87,7 @@ impl<Of> Word<Of> {
     pub(crate) fn capped_product(self, other: Word<Of>) -> Word<Of>
         ensures { result ≡ word_product self other }
     {
-        // Not `saturating_mul`, which divides: bridges of fault sets with parts take half as long again, past the bar of docs/SPEED.md.
+        // Not `saturating_mul`, which divides: bridges with parts take half as long again.
         Word::new(cap(self.bits as u64 * other.bits as u64))
     }
 

@@ -1,4 +1,4 @@
-use Rattle.kinds.proofs.Members.{union_has, intersection_has, meets_within}
+use Rattle.kinds.proofs.BitSets.{union_has, intersection_has, meets_within}
 use Rattle.kinds.proofs.theorems.bits_are_members.Goals as goal
 
 pub returns : goal.returns

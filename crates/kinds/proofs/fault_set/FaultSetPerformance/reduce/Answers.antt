@@ -6,5 +6,5 @@ use Rattle.kinds.proofs.fault_set.FaultSetPerformance.reduce.Goals as goal
 
 pub returns : goal.returns
 returns c =
-    rw (c.new.ensures.only zero_word refl, c.intersection-with.ensures, c.intersection.ensures, c.intersection-without.ensures, c.union.ensures, c.union-2.ensures, c.union-3.ensures, c.union-4.ensures)
+    rw (c.new.ensures.only zero_word refl, c.intersection-around.ensures, c.around_c.ensures, c.without_c-without.ensures)
     (faults_reduced (outer_arms c.args.a.now c.args.b.now c.args.d.now c.args.e.now))

@@ -6,5 +6,5 @@ use Rattle.kinds.proofs.flow.FlowPerformance.reduce.Goals as goal
 
 pub returns : goal.returns
 returns c =
-    rw (c.new.ensures.only zero_word refl, c.smaller-with.ensures, c.smaller.ensures, c.smaller-without.ensures, c.capped_sum.ensures, c.capped_sum-2.ensures, c.capped_sum-3.ensures, c.capped_sum-4.ensures)
+    rw (c.new.ensures.only zero_word refl, c.smaller-around.ensures, c.around_c.ensures, c.without_c-without.ensures)
     (flow_reduced (outer_arms c.args.a.now c.args.b.now c.args.d.now c.args.e.now))

@@ -5,8 +5,8 @@ use Rattle.std.proofs.lemmas.Bool.Decides.{Decides-like, Decides-eqb}
 use lib.Arith.{bin_ind}
 use lib.Bits.{bit_and, bit_or, and_shr, or_shr}
 use Rattle.std.proofs.lemmas.Nat.{shr-shr}
-use Rattle.kinds.specs.Members.{Within, UnionHas, IntersectionHas}
-use Rattle.kinds.specs.Bitwise.{and_half, and_low, or_low, by_digits}
+use Rattle.kinds.specs.BitSets.{Within, UnionHas, IntersectionHas}
+use Rattle.kinds.specs.BitLaws.{and_half, and_low, or_low, by_digits}
 
 -- a set lies within another exactly where the intersection leaves it whole
 pub within_and : (v w : ℕ) → bit_and v w ≡ v → Within v w

@@ -12,7 +12,7 @@ then_less Less p h = inl refl
 then_less Equal p h = inr (refl, h)
 then_less Greater p h = let z : ◌≡◌ {A = ℕ} 0 1 = cc in absurd (omega arith)
 
-module _ {X Y : Type 0} (f : X → X → Ordering) (g : Y → Y → Ordering)
+module _ {X Y : Type 0} {f : X → X → Ordering} {g : Y → Y → Ordering}
     (same : (a b : X) → f a b ≡ Equal → a ≡ b)
     (f_less : (a b c : X) → f a b ≡ Less → f b c ≡ Less → f a c ≡ Less)
     (g_less : (a b c : Y) → g a b ≡ Less → g b c ≡ Less → g a c ≡ Less) where
