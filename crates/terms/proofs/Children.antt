@@ -6,7 +6,7 @@ use Rattle.kinds.specs.declared.weight.Weight
 use Rattle.terms.specs.declared.term.Way.{Way}
 use Rattle.terms.specs.Combinations.{joins, combinations, bridges}
 use Rattle.terms.specs.Drawings.{Drawing, part, joined, bridge, Children, one, more, places, places_of, NoneTwice, NoPartTwice}
-use Rattle.terms.specs.Steps.{first_ones, running_drawings}
+use Rattle.terms.specs.Stepwise.{first_ones, running_drawings}
 use Rattle.terms.specs.EnumerationLaws.{OfPart, OfOne, OfMore, OfBridge, StepsFindTheRow, StepsFindRunningResults}
 use Rattle.kinds.proofs.Lawful.{Kind, Weighing}
 use Rattle.terms.proofs.Picks.{apart_followed}

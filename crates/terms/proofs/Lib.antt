@@ -17,6 +17,4 @@ pub mod Redrawing
 pub mod Listing
 pub mod Beneath
 pub mod Children
-pub mod Reordering
-pub mod Outer
-pub mod Pending
+pub mod Bridging

@@ -1,7 +1,7 @@
 -- A term added at the place of its performance in a row, or put in where none stands.
 use Rattle.std.proofs.Common.{◌≡◌, ℕ, zero, suc, ◌+◌, ◌-◌, ◌<◌, ◌≤◌, true, false, List, [], ◌∷◌, ◌++◌, length, get_or, take, drop, set, Less, Equal, Greater, sym, refl, ap, ◌∙◌, subst, append_assoc, length-drop, arith}
 use Rattle.std.specs.List.{copy_within, insert}
-use Rattle.std.specs.List.Sorted.{IsNonDecreasingBy, IsPartitionPoint}
+use Rattle.std.specs.List.Sorted.{IsNonDecreasingBy}
 use Rattle.std.specs.Ordering.{ordering_index}
 use Rattle.std.proofs.lemmas.List.{get_or-take, set-get_or, length-take-le, take_more_set, take-take, drop-take, set-append_left}
 use Rattle.std.proofs.lemmas.List.Edits.{take-paste}
@@ -11,6 +11,7 @@ use Rattle.terms.specs.declared.term.Term.{Term}
 use Rattle.terms.specs.Rows.{Above, IsRow, RowOf}
 use Rattle.kinds.proofs.Lawful.{Kind, Weighing}
 use Rattle.terms.specs.Combinations.{term}
+use Rattle.terms.specs.Growing.{Gap}
 use Rattle.terms.proofs.Summing.{neutral_right}
 use Rattle.terms.proofs.Canonical.{put_in, merge_in, grown_by, by_cases, by_test, greater_less, less_greater, share_additive, row_merge_in, sum_merge_in}
 
@@ -39,11 +40,7 @@ put_between {X} xs len i y h l =
     ∙ ap (λ zs. take i (take len xs) ++ (y ∷ zs)) (sym (drop-take i n xs) ∙ ap (λ m. drop i (take m xs)) all)
 
 module _ {P W : Type 0} (kind : Performance.Ghosts P) (weights : Weight.Ghosts W) where
-  -- the terms of r before place i are less than t, and those from there on greater
-  abbrev Gap : Term P W → List (Term P W) → ℕ → Type 0
-  Gap t r i = IsPartitionPoint (λ x. kind.compared x.performance t.performance ≡ Less) (λ x. kind.compared x.performance t.performance ≡ Greater) r i
-
-  put_in_at : (t : Term P W) (r : List (Term P W)) (i : ℕ) → Gap t r i → put_in kind weights t r ≡ insert r i t
+  put_in_at : (t : Term P W) (r : List (Term P W)) (i : ℕ) → Gap kind weights t r i → put_in kind weights t r ≡ insert r i t
   put_in_at t [] zero h = refl
   put_in_at t [] (suc i) h = refl
   put_in_at t (x ∷ xs) zero h = rw (h.1 0 x (omega arith) (omega arith)) refl

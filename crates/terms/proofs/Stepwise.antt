@@ -8,7 +8,7 @@ use Rattle.terms.specs.Rows.{SameDistribution, RowOf}
 use Rattle.terms.specs.Combinations.{each, term, joins, combined, combinations, bridged, bridges}
 use Rattle.terms.specs.Drawings.{Drawing, part, joined, bridge, Children, one, more, PartList, only, and, followed_by, places, places_of, NoneTwice, NoPartTwice}
 use Rattle.terms.specs.Enumeration.{picks, performance_of, joined_performance, weight_of, enumeration}
-use Rattle.terms.specs.Steps.{WorkedOut, JoinedStepwise}
+use Rattle.terms.specs.Stepwise.{WorkedOut, JoinedStepwise}
 use Rattle.kinds.proofs.Lawful.{Kind, Weighing}
 use Rattle.terms.proofs.Canonical.{canon, canon_row, row_unique}
 use Rattle.terms.proofs.Combining.{combinations_keep, bridges_keep}

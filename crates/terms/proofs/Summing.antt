@@ -1,5 +1,6 @@
 -- Sums over lists of terms.
-use Rattle.std.proofs.Common.{◌≡◌, List, [], ◌∷◌, ◌++◌, sym, refl, ap, ◌∙◌}
+use Rattle.std.proofs.Common.{◌≡◌, ℕ, ◌+◌, ◌<◌, List, [], ◌∷◌, ◌++◌, length, get_or, take, sym, refl, ap, ◌∙◌}
+use Rattle.std.proofs.lemmas.List.{take_more}
 use Rattle.kinds.specs.declared.weight.Weight
 use Rattle.terms.specs.declared.term.Term.{Term}
 use Rattle.terms.specs.Rows.{sum_over}
@@ -108,3 +109,10 @@ module _ {W : Type 0} {weights : Weight.Ghosts W} (w : Weighing weights) where
         sum_cong (g (term p (u ⊕ v))) (λ y. g (term p u) y ⊕ g (term p v) y) ys (λ y. (a y).more p u v)
         ∙ sum_both (g (term p u)) (g (term p v)) ys;
   }
+
+-- one term more in a running sum
+pub sum_more : {P W : Type 0} {weights : Weight.Ghosts W} (w : Weighing weights) (gives : Term P W → W) (ts : List (Term P W)) (i : ℕ) (t : Term P W) → i < length ts → t ≡ get_or ts i t → sum_over weights gives (take (i + 1) ts) ≡ weights.sum (sum_over weights gives (take i ts)) (gives t)
+sum_more {weights = weights} w gives ts i t in_List read =
+    ap (sum_over weights gives) (take_more ts i t in_List ∙ ap (λ z. take i ts ++ z ∷ []) (sym read))
+    ∙ sum_append w gives (take i ts) (t ∷ [])
+    ∙ ap (λ z. weights.sum (sum_over weights gives (take i ts)) z) (sum_one w gives t)

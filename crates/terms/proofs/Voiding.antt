@@ -4,10 +4,11 @@ use Rattle.kinds.specs.declared.performance.Performance
 use Rattle.kinds.specs.declared.performance.OuterArms.{OuterArms}
 use Rattle.kinds.specs.declared.weight.Weight
 use Rattle.terms.specs.declared.term.Term.{Term}
+use Rattle.terms.specs.declared.bridge.Arms.{Arms}
 use Rattle.terms.specs.Rows.{if_same, share, weight_at, SameDistribution, IsRow, RowOf}
 use Rattle.terms.specs.Combinations.{each}
 use Rattle.terms.specs.Picking.{with_b, with_d, with_outer}
-use Rattle.terms.specs.Growing.{scaled, mapped, GivesNothing}
+use Rattle.terms.specs.Growing.{scaled, GivesNothing}
 use Rattle.kinds.proofs.Lawful.{Kind, Weighing}
 use Rattle.terms.proofs.Summing.{sum_append}
 
@@ -46,17 +47,14 @@ module _ {P W : Type 0} {kind : Performance.Ghosts P} {weights : Weight.Ghosts W
   pub void_wanted : (xs : List T) (wanted : P → W → List T) → ((p : P) → Void (wanted p weights.nothing)) → (v : W) → v ≡ weights.nothing → Void (each xs λ x. wanted x.performance (weights.product v x.weight))
   void_wanted xs wanted none v e = void_each xs _ (λ x p. ap (λ z. weight_at kind weights (wanted x.performance z) p) (ap (λ z. weights.product z x.weight) e ∙ w.absorbs x.weight) ∙ none x.performance p)
 
-  pub void_mapped : (xs : List T) (g : P → P) (v : W) → v ≡ weights.nothing → Void (each xs λ x. mapped weights g v x ∷ [])
-  void_mapped xs g v e = void_each xs _ (λ x. void_one _ (ap (λ z. weights.product z x.weight) e ∙ w.absorbs x.weight))
-
   pub void_outer : (cs : List T) (outer : OuterArms P) (v : W) → v ≡ weights.nothing → Void (with_outer kind weights cs outer v)
-  void_outer cs outer v = void_mapped cs (λ p. kind.bridge outer.a outer.b p outer.d outer.e) v
+  void_outer cs outer v e = void_each cs _ (λ c. void_one _ (ap (λ z. weights.product z c.weight) e ∙ w.absorbs c.weight))
 
-  pub void_d : (a b : P) (es cs : List T) → GivesNothing kind weights (λ d. with_d kind weights a b d es cs)
-  void_d a b es cs d h = void_each es _ (λ e. void_outer cs _ _ (ap (λ z. weights.product z e.weight) h ∙ w.absorbs e.weight))
+  pub void_d : (a b : P) (arms : Arms P W) → GivesNothing kind weights (λ d. with_d kind weights a b d arms)
+  void_d a b arms d h = void_each arms.e.now _ (λ e. void_outer arms.c.now _ _ (ap (λ z. weights.product z e.weight) h ∙ w.absorbs e.weight))
 
-  pub void_b : (a : P) (ds es cs : List T) → GivesNothing kind weights (λ b. with_b kind weights a b ds es cs)
-  void_b a ds es cs b = void_times ds (λ d. with_d kind weights a b.performance d es cs) (void_d a b.performance es cs) b.weight
+  pub void_b : (a : P) (arms : Arms P W) → GivesNothing kind weights (λ b. with_b kind weights a b arms)
+  void_b a arms b = void_times arms.d.now (λ d. with_d kind weights a b.performance d arms) (void_d a b.performance arms) b.weight
 
   pub void_adds : (ts r : List T) → Void ts → IsRow kind weights r → RowOf kind weights (ts ++ r) r
   void_adds ts r e h = record {

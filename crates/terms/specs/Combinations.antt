@@ -45,5 +45,7 @@ module _ {P W : Type 0} (kind : Performance.Ghosts P) (weights : Weight.Ghosts W
       (a.weight ⊗ b.weight ⊗ c.weight ⊗ d.weight ⊗ e.weight)
 
   -- all the combinations of the five arms
-  abbrev pub bridges : List (Term P W) → List (Term P W) → List (Term P W) → List (Term P W) → List (Term P W) → List (Term P W)
-  bridges arm_a arm_b arm_c arm_d arm_e = each arm_a λ a. each arm_b λ b. each arm_c λ c. each arm_d λ d. each arm_e λ e. bridged a b c d e ∷ []
+  abbrev pub bridges : (arm_a arm_b arm_c arm_d arm_e : List (Term P W)) → List (Term P W)
+  bridges arm_a arm_b arm_c arm_d arm_e =
+      each arm_a λ a. each arm_b λ b. each arm_c λ c. each arm_d λ d. each arm_e λ e.
+      bridged a b c d e ∷ []

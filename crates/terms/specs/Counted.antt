@@ -1,4 +1,4 @@
--- Terms with another weight in the place of theirs, and combinations weighed with whole numbers that never stop.
+-- Terms with another weight, and combinations weighed with whole numbers that never stop.
 use Rattle.std.specs.Prelude.{ℕ, List, map}
 use Rattle.kinds.specs.Counting.{whole_numbers}
 use Rattle.kinds.specs.declared.performance.Performance
@@ -10,6 +10,8 @@ use Rattle.terms.specs.Enumeration.{enumeration}
 abbrev pub reweighed : {P V W : Type 0} → (V → W) → Term P V → Term P W
 reweighed f t = term t.performance (f t.weight)
 
--- all the combinations of a drawing whose parts are in these states, weighed with the whole numbers that their weights count
-abbrev pub true_combinations : {P W : Type 0} → Performance.Ghosts P → (W → ℕ) → (ℕ → List (Term P W)) → Drawing → List (Term P ℕ)
-true_combinations kind count states = enumeration kind whole_numbers (λ n. map (reweighed count) (states n))
+-- a drawing's combinations, weighed with the whole numbers that the weights of its states count
+abbrev pub true_combinations :
+    {P W : Type 0} → Performance.Ghosts P → (W → ℕ) → (ℕ → List (Term P W)) → Drawing → List (Term P ℕ)
+true_combinations kind count states =
+    enumeration kind whole_numbers (λ n. map (reweighed count) (states n))

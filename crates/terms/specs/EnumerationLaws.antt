@@ -8,11 +8,12 @@ use Rattle.terms.specs.Rows.{RowOf}
 use Rattle.terms.specs.Combinations.{each, term, joins, combinations, bridges}
 use Rattle.terms.specs.Drawings.{Drawing, part, joined, bridge, Children, one, more, PartList, only, and, has, NoneTwice, places, Beneath, parts_beneath, NoPartTwice}
 use Rattle.terms.specs.Enumeration.{performance_of, combination, enumeration}
-use Rattle.terms.specs.Steps.{running_drawings, RunningResult, WorkedOut}
+use Rattle.terms.specs.Stepwise.{running_drawings, RunningResult, WorkedOut}
 
 -- the parts beneath a drawing are those that stand in it, each once
 abbrev pub BeneathOnce : Type 0
-BeneathOnce = (d : Drawing) → NoneTwice (parts_beneath d) × ((n : ℕ) → has n (parts_beneath d) ≡ has n (places d))
+BeneathOnce =
+    (d : Drawing) → NoneTwice (parts_beneath d) × ((n : ℕ) → has n (parts_beneath d) ≡ has n (places d))
 
 -- three children have two running results: the first two, and all
 abbrev pub RunningOfThree : Type 0
@@ -45,12 +46,14 @@ module _ {P W : Type 0} (kind : Performance.Ghosts P) (weights : Weight.Ghosts W
   abbrev pub NothingElse : Type 0
   NothingElse =
       (states : States) (d : Drawing) →
-      All (λ t. (pick : ℕ → Term P W) × PicksFrom states d pick × (t ≡ combination kind weights d pick)) (enumerated states d)
+      All (λ t. (pick : ℕ → Term P W) × PicksFrom states d pick × (t ≡ combination kind weights d pick))
+      (enumerated states d)
 
   abbrev pub AsManyAsPicks : Type 0
-  AsManyAsPicks = (states : States) (d : Drawing) → length (enumerated states d) ≡ ways_to_pick states (parts_beneath d)
+  AsManyAsPicks =
+      (states : States) (d : Drawing) → length (enumerated states d) ≡ ways_to_pick states (parts_beneath d)
 
-  -- a drawing of one part, at however many places, has a combination for each of its states, with that state's weight
+  -- a drawing of one part, at however many places, has for each of its states a combination of that weight
   abbrev pub OnePartOnly : Type 0
   OnePartOnly =
       (states : States) (d : Drawing) (n : ℕ) → parts_beneath d ≡ only n →
@@ -74,12 +77,14 @@ module _ {P W : Type 0} (kind : Performance.Ghosts P) (weights : Weight.Ghosts W
   OfPart = (states : States) (n : ℕ) → enumerated states (part n) ≡ states n
 
   abbrev pub OfOne : Type 0
-  OfOne = (states : States) (way : Way) (d : Drawing) → enumerated states (joined way (one d)) ≡ enumerated states d
+  OfOne =
+      (states : States) (way : Way) (d : Drawing) → enumerated states (joined way (one d)) ≡ enumerated states d
 
   -- with one child more, those of the children before it combined with those of the child
   abbrev pub OfMore : Type 0
   OfMore =
-      (states : States) (way : Way) (ds : Children) (d : Drawing) → NoPartTwice (joined way (more ds d)) →
+      (states : States) (way : Way) (ds : Children) (d : Drawing) →
+      NoPartTwice (joined way (more ds d)) →
       enumerated states (joined way (more ds d)) ≡
       combinations weights (joins kind way) (enumerated states (joined way ds)) (enumerated states d)
 
@@ -88,7 +93,8 @@ module _ {P W : Type 0} (kind : Performance.Ghosts P) (weights : Weight.Ghosts W
   OfBridge =
       (states : States) (a b c d e : Drawing) → NoPartTwice (bridge a b c d e) →
       enumerated states (bridge a b c d e) ≡
-      bridges kind weights (enumerated states a) (enumerated states b) (enumerated states c) (enumerated states d) (enumerated states e)
+      bridges kind weights (enumerated states a) (enumerated states b) (enumerated states c)
+      (enumerated states d) (enumerated states e)
 
   -- what is worked out step by step is the row of all the combinations, and nothing else
   abbrev pub StepsFindTheRow : Type 0

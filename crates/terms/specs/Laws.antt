@@ -21,9 +21,10 @@ module _ {P W : Type 0} (kind : Performance.Ghosts P) (weights : Weight.Ghosts W
 
   -- a list has a row, and no other
   abbrev pub OneRow : Type 0
-  OneRow = (ts : Terms) → (r : Terms) × RowOf kind weights ts r × ((s : Terms) → RowOf kind weights ts s → r ≡ s)
+  OneRow =
+      (ts : Terms) → (r : Terms) × RowOf kind weights ts r × ((s : Terms) → RowOf kind weights ts s → r ≡ s)
 
-  -- the terms and the length of the room decide the answer: None comes exactly where the row is longer than the room
+  -- the terms and the length of the room decide the answer, None exactly where the row is longer
   abbrev pub OneAnswer : Type 0
   OneAnswer =
       (ts room room' : Terms) (answer answer' : Option ℕ) → length room ≡ length room' →
@@ -31,15 +32,19 @@ module _ {P W : Type 0} (kind : Performance.Ghosts P) (weights : Weight.Ghosts W
 
   -- the distribution of the combinations depends only on the distributions of the two lists
   abbrev pub CombiningKeeps : Type 0
-  CombiningKeeps = (way : Way) (xs xs' ys ys' : Terms) → Same xs xs' → Same ys ys' → Same (both way xs ys) (both way xs' ys')
+  CombiningKeeps =
+      (way : Way) (xs xs' ys ys' : Terms) → Same xs xs' → Same ys ys' →
+      Same (both way xs ys) (both way xs' ys')
 
   -- however three lists are grouped, the distribution is the same
   abbrev pub CombiningAssociates : Type 0
-  CombiningAssociates = (way : Way) (xs ys zs : Terms) → Same (both way (both way xs ys) zs) (both way xs (both way ys zs))
+  CombiningAssociates =
+      (way : Way) (xs ys zs : Terms) → Same (both way (both way xs ys) zs) (both way xs (both way ys zs))
 
   -- and in either order, where the kind says that order does not count
   abbrev pub CombiningCommutes : Type 0
-  CombiningCommutes = (way : Way) → ordered kind way ≡ false → (xs ys : Terms) → Same (both way xs ys) (both way ys xs)
+  CombiningCommutes =
+      (way : Way) → ordered kind way ≡ false → (xs ys : Terms) → Same (both way xs ys) (both way ys xs)
 
   -- the distribution of a bridge depends only on the distributions of its arms
   abbrev pub BridgingKeeps : Type 0
@@ -51,4 +56,5 @@ module _ {P W : Type 0} (kind : Performance.Ghosts P) (weights : Weight.Ghosts W
   abbrev pub SummingKeeps : Type 0
   SummingKeeps =
       (ts us : Terms) → Same ts us →
-      (total_of weights ts ≡ total_of weights us) × ((demand : P) → met_of kind weights demand ts ≡ met_of kind weights demand us)
+      (total_of weights ts ≡ total_of weights us) ×
+      ((demand : P) → met_of kind weights demand ts ≡ met_of kind weights demand us)

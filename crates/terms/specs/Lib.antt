@@ -8,9 +8,8 @@ pub mod Laws
 pub mod Drawings
 pub mod Enumeration
 pub mod Counted
-pub mod Steps
+pub mod Stepwise
 pub mod Readings
 pub mod EnumerationLaws
 pub mod ReadingLaws
 pub mod Shown
-pub mod Summed

@@ -38,24 +38,30 @@ module _ {P W : Type 0} (kind : Performance.Ghosts P) (weights : Weight.Ghosts W
 
   -- they have the same distribution
   abbrev pub SameByReading : Type 0
-  SameByReading = OfTwoThatReadSame λ states d states' e. SameDistribution kind weights (enumerated states d) (enumerated states' e)
+  SameByReading = OfTwoThatReadSame λ states d states' e.
+      SameDistribution kind weights (enumerated states d) (enumerated states' e)
 
   -- hence the same row
   abbrev pub RowByReading : Type 0
   RowByReading = OfTwoThatReadSame λ states d states' e.
-      (r s : Terms) → RowOf kind weights (enumerated states d) r → RowOf kind weights (enumerated states' e) s → r ≡ s
+      (r s : Terms) → RowOf kind weights (enumerated states d) r →
+      RowOf kind weights (enumerated states' e) s → r ≡ s
 
   -- the same sum over everything, and over the terms that meet any demand
   abbrev pub TotalByReading : Type 0
-  TotalByReading = OfTwoThatReadSame λ states d states' e. total_of weights (enumerated states d) ≡ total_of weights (enumerated states' e)
+  TotalByReading = OfTwoThatReadSame λ states d states' e.
+      total_of weights (enumerated states d) ≡ total_of weights (enumerated states' e)
 
   abbrev pub MetByReading : Type 0
   MetByReading = OfTwoThatReadSame λ states d states' e.
-      (demand : P) → met_of kind weights demand (enumerated states d) ≡ met_of kind weights demand (enumerated states' e)
+      (demand : P) →
+      met_of kind weights demand (enumerated states d) ≡ met_of kind weights demand (enumerated states' e)
 
   -- a part reads as the distribution of its states, and a bridge as its arms from a to e
   abbrev pub PartReads : Type 0
-  PartReads = (states : States) (n : ℕ) → reading_of kind weights states (part n) ≡ as_part (weight_at kind weights (states n))
+  PartReads =
+      (states : States) (n : ℕ) →
+      reading_of kind weights states (part n) ≡ as_part (weight_at kind weights (states n))
 
   abbrev pub BridgeReads : Type 0
   BridgeReads =
@@ -76,7 +82,7 @@ module _ {P W : Type 0} (kind : Performance.Ghosts P) (weights : Weight.Ghosts W
       Reads states (joined way (more (one a) (joined way (more (one b) c))))
       states (joined way (more (one (joined way (more (one a) b))) c))
 
-  -- any number of children: one that is joined in the same way, anywhere among them, may give its place to its own children
+  -- any number of children: one that is joined in the same way may give its place to its own children
   abbrev pub Dissolved : Type 0
   Dissolved =
       (states : States) (way : Way) (front back : List Drawing) (own before after : Children) →
@@ -86,7 +92,8 @@ module _ {P W : Type 0} (kind : Performance.Ghosts P) (weights : Weight.Ghosts W
   -- children in any other order, where order does not count
   abbrev pub InAnyOrder : Type 0
   InAnyOrder =
-      (states : States) (way : Way) → ordered kind way ≡ false → (ds es : Children) → Permuted (as_list ds) (as_list es) →
+      (states : States) (way : Way) → ordered kind way ≡ false →
+      (ds es : Children) → Permuted (as_list ds) (as_list es) →
       Reads states (joined way ds) states (joined way es)
 
   -- where it counts, two parts exchanged read the same only if their distributions are the same
@@ -98,17 +105,27 @@ module _ {P W : Type 0} (kind : Performance.Ghosts P) (weights : Weight.Ghosts W
 
   -- drawings of different form never read the same
   pub record FormsDiffer : Type 0 where
-    pub series_parallel : (states states' : States) (ds es : Children) → Reads states (joined Series ds) states' (joined Parallel es) → ⊥
-    pub part_joined : (states states' : States) (n : ℕ) (way : Way) (es : Children) → Reads states (part n) states' (joined way es) → ⊥
-    pub part_bridge : (states states' : States) (n : ℕ) (a b c d e : Drawing) → Reads states (part n) states' (bridge a b c d e) → ⊥
-    pub joined_bridge : (states states' : States) (way : Way) (ds : Children) (a b c d e : Drawing) → Reads states (joined way ds) states' (bridge a b c d e) → ⊥
+    pub series_parallel :
+        (states states' : States) (ds es : Children) →
+        Reads states (joined Series ds) states' (joined Parallel es) → ⊥
+    pub part_joined :
+        (states states' : States) (n : ℕ) (way : Way) (es : Children) →
+        Reads states (part n) states' (joined way es) → ⊥
+    pub part_bridge :
+        (states states' : States) (n : ℕ) (a b c d e : Drawing) →
+        Reads states (part n) states' (bridge a b c d e) → ⊥
+    pub joined_bridge :
+        (states states' : States) (way : Way) (ds : Children) (a b c d e : Drawing) →
+        Reads states (joined way ds) states' (bridge a b c d e) → ⊥
 
   -- reading the same is an equivalence
   abbrev pub Reflexive : Type 0
   Reflexive = (states : States) (d : Drawing) → Reads states d states d
 
   abbrev pub Symmetric : Type 0
-  Symmetric = (states : States) (d : Drawing) (states' : States) (e : Drawing) → Reads states d states' e → Reads states' e states d
+  Symmetric =
+      (states : States) (d : Drawing) (states' : States) (e : Drawing) →
+      Reads states d states' e → Reads states' e states d
 
   abbrev pub Transitive : Type 0
   Transitive =
@@ -126,5 +143,6 @@ module _ {P W : Type 0} (kind : Performance.Ghosts P) (weights : Weight.Ghosts W
         Reads states (joined way (more ds d)) states' (joined way (more es e))
     pub arms :
         (states : States) (a b c d e : Drawing) (states' : States) (a' b' c' d' e' : Drawing) →
-        Reads states a states' a' → Reads states b states' b' → Reads states c states' c' → Reads states d states' d' → Reads states e states' e' →
+        Reads states a states' a' → Reads states b states' b' → Reads states c states' c' →
+        Reads states d states' d' → Reads states e states' e' →
         Reads states (bridge a b c d e) states' (bridge a' b' c' d' e')

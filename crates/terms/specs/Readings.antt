@@ -88,4 +88,5 @@ module _ {P W : Type 0} (kind : Performance.Ghosts P) (weights : Weight.Ghosts W
 
   -- two drawings, each with its states, read the same
   abbrev pub ReadSame : (ℕ → List (Term P W)) → Drawing → (ℕ → List (Term P W)) → Drawing → Type 0
-  ReadSame states d states' e = SameReading EqualDistributions (ordered kind) (reading_of states d) (reading_of states' e)
+  ReadSame states d states' e =
+      SameReading EqualDistributions (ordered kind) (reading_of states d) (reading_of states' e)

@@ -1,16 +1,18 @@
-// The row of all the combinations of the five arms of a bridge.
+//! The row of all the combinations of the five arms of a bridge.
 ghost use Rattle.std.specs.Prelude.{◌≡◌, ◌↔◌, IsTrue};
 ghost use Rattle.kinds.specs.OuterArms.{outer_arms, SameAround};
 ghost use Rattle.terms.specs.Merging.{Merges};
 ghost use Rattle.terms.specs.Combinations.{bridges};
 
-use crate::row::{Row, Run, like};
+use crate::row::{Group, Row, like};
 use crate::term::Term;
 use kinds::performance::{OuterArms, Performance};
 use kinds::weight::Weight;
 
-// The length of the row of the combinations of the arms a to e (five slices, so that the contract names each), which stands in the
-// first places of `room`, memory that is lent; None where it is longer than the room.
+/// Merges the combinations of the arms a to e into their row, in the first places of `room`, and
+/// answers its length.
+///
+/// None where the row is longer than the room, however many combinations there are.
 pub fn bridge<P: Performance, W: Weight>(
     arm_a: &[Term<P, W>],
     arm_b: &[Term<P, W>],
@@ -19,7 +21,9 @@ pub fn bridge<P: Performance, W: Weight>(
     arm_e: &[Term<P, W>],
     room: &mut [Term<P, W>],
 ) -> Option<usize>
-    ensures { Merges P.Performance W.Weight (bridges P.Performance W.Weight arm_a.now arm_b.now arm_c.now arm_d.now arm_e.now) room.new result }
+    ensures { Merges P.Performance W.Weight
+        (bridges P.Performance W.Weight arm_a.now arm_b.now arm_c.now arm_d.now arm_e.now)
+        room.new result }
 {
     let arms = Arms {
         b: arm_b,
@@ -30,9 +34,10 @@ pub fn bridge<P: Performance, W: Weight>(
     Row::of_each(arm_a, room, |row, a| arms.with_a(a, row))
 }
 
-// The arms that are picked from after arm a. The weight of the term picked last is the product of all those picked. Arm c comes last: once
-// the flow, say, through the other four is known, more of c mostly changes nothing, so that many like performances follow one another. A
-// function for each level: as closures within closures they prove too, but stand five deep and need the same clauses.
+// The arms that are picked from after arm a. The weight of the term picked last is the product of
+// all those picked. Arm c comes last: once the flow, say, through the other four is known, more of
+// c mostly changes nothing, so that many like performances follow one another. A function for each
+// level: closures within closures would stand five deep, and need the same clauses.
 #[derive(Clone, Copy)]
 struct Arms<'a, P, W> {
     b: &'a [Term<P, W>],
@@ -47,7 +52,8 @@ impl<P: Performance, W: Weight> Arms<'_, P, W> {
 
     // Arm a picked: every b with all of the arms after it.
     fn with_a(&self, a: Term<P, W>, row: &mut Row<P, W>) -> Option<()>
-        ensures { Grows P.Performance W.Weight (with_a P.Performance W.Weight a self.now.b.now self.now.d.now self.now.e.now self.now.c.now) row.old row.new result }
+        ensures { Grows P.Performance W.Weight
+            (with_a P.Performance W.Weight a self.now) row.old row.new result }
     {
         row.for_each_times(
             a.weight,
@@ -58,7 +64,8 @@ impl<P: Performance, W: Weight> Arms<'_, P, W> {
 
     // Arms a and b picked: every d with all of e and c.
     fn with_b(&self, a: P, b: Term<P, W>, row: &mut Row<P, W>) -> Option<()>
-        ensures { Grows P.Performance W.Weight (with_b P.Performance W.Weight a b self.now.d.now self.now.e.now self.now.c.now) row.old row.new result }
+        ensures { Grows P.Performance W.Weight
+            (with_b P.Performance W.Weight a b self.now) row.old row.new result }
     {
         row.for_each_times(
             b.weight,
@@ -67,24 +74,28 @@ impl<P: Performance, W: Weight> Arms<'_, P, W> {
         )
     }
 
-    // Arms a, b and d picked: every e with all of c. Of outer arms that follow one another and do the same around arm c, c is gone through
-    // once. Not inlined: inlined into the loops over a, b and d, those over e and c would be left too few registers.
+    // Arms a, b and d picked: every e with all of c, which is gone through once for each group of
+    // outer arms that do the same around it. Not inlined: within the loops over a, b and d, those
+    // over e and c would be left too few registers.
     #[inline(never)]
     fn with_d(&self, a: P, b: P, d: Term<P, W>, row: &mut Row<P, W>) -> Option<()>
-        ensures { Grows P.Performance W.Weight (with_d P.Performance W.Weight a b d self.now.e.now self.now.c.now) row.old row.new result }
+        ensures { Grows P.Performance W.Weight
+            (with_d P.Performance W.Weight a b d self.now) row.old row.new result }
     {
-        row.for_each_run(
+        row.for_each_group(
             d.weight,
             self.e,
             |e| reduced(a, b, d.performance, e),
             |p, q| like_arms(p, q),
-            |row, run| self.with_outer(run, row),
+            |row, group| self.with_outer(group, row),
         )
     }
 
     // All arms but c picked: every c.
-    fn with_outer(&self, outer: Run<OuterArms<P>, W>, row: &mut Row<P, W>) -> Option<()>
-        ensures { Grows P.Performance W.Weight (with_outer P.Performance W.Weight self.now.c.now outer.key outer.weight) row.old row.new result }
+    fn with_outer(&self, outer: Group<OuterArms<P>, W>, row: &mut Row<P, W>) -> Option<()>
+        ensures { Grows P.Performance W.Weight
+            (with_outer P.Performance W.Weight self.now.c.now outer.key outer.weight)
+            row.old row.new result }
     {
         let OuterArms { a, b, d, e } = outer.key;
         row.put_each(outer.weight, self.c, |c| P::in_bridge(a, b, c, d, e))

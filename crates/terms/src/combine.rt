@@ -1,4 +1,4 @@
-// The row of all the combinations of two lists, in series or in parallel.
+//! The row of all the combinations of two lists, in series or in parallel.
 ghost use Rattle.std.specs.Prelude.{◌≡◌, [], ◌∷◌};
 ghost use Rattle.terms.specs.Merging.{Merges};
 ghost use Rattle.terms.specs.Growing.{Grows};
@@ -9,20 +9,23 @@ use crate::term::{Term, Way};
 use kinds::performance::Performance;
 use kinds::weight::Weight;
 
-// The length of the row of the combinations of `xs` and `ys`, which stands in the first places of `room`, memory that is lent; None where
-// it is longer than the room.
+/// Merges the combinations of `xs` and `ys` into their row, in the first places of `room`, and
+/// answers its length.
+///
+/// None where the row is longer than the room, however many combinations there are.
 pub fn combine<P: Performance, W: Weight>(
     way: Way,
     xs: &[Term<P, W>],
     ys: &[Term<P, W>],
     room: &mut [Term<P, W>],
 ) -> Option<usize>
-    ensures { Merges P.Performance W.Weight (combinations W.Weight (joins P.Performance way) xs.now ys.now) room.new result }
+    ensures { Merges P.Performance W.Weight
+        (combinations W.Weight (joins P.Performance way) xs.now ys.now) room.new result }
 {
     Row::of_each(xs, room, |row, x| with_all(way, x, ys, row))
 }
 
-// One term of each of two lists, together.
+/// One term of each of two lists, together: the performances joined, the weights multiplied.
 pub fn combine_terms<P: Performance, W: Weight>(
     way: Way,
     x: Term<P, W>,
@@ -36,19 +39,21 @@ pub fn combine_terms<P: Performance, W: Weight>(
     }
 }
 
-// One x with all of `ys`; a function, since as a closure it needs the same clause.
+// One x with all of `ys`. A function, since as a closure it needs the same clause.
 fn with_all<P: Performance, W: Weight>(
     way: Way,
     x: Term<P, W>,
     ys: &[Term<P, W>],
     row: &mut Row<P, W>,
 ) -> Option<()>
-    ensures { Grows P.Performance W.Weight (each ys.now (λ y. combined W.Weight (joins P.Performance way) x y ∷ [])) row.old row.new result }
+    ensures { Grows P.Performance W.Weight
+        (each ys.now (λ y. combined W.Weight (joins P.Performance way) x y ∷ []))
+        row.old row.new result }
 {
     row.put_each(x.weight, ys, |y| join(way, x.performance, y))
 }
 
-// Two performances, joined. The public calls take the way as a value, so the choice of the operation is made here.
+// Two performances, joined.
 fn join<P: Performance>(way: Way, x: P, y: P) -> P
     ensures { result ≡ joins P.Performance way x y }
 {

@@ -1,4 +1,4 @@
-// Terms, the rows that lists of terms have, and the rows of combinations.
+//! Terms, the rows that lists of terms have, and the rows of combinations.
 #![tactic(auto)]
 
 pub mod bridge;

@@ -1,13 +1,14 @@
-// Merging terms into a row in lent memory: one text for every kind and weight.
-ghost use Rattle.terms.specs.Merging.{Merges, Adds, length_in};
+//! Merging terms into a row in lent memory: one text for every kind and weight.
+ghost use Rattle.terms.specs.Merging.{Merges, Adds};
 
 use crate::row::Row;
-use crate::term::{Filled, Term};
+use crate::term::Term;
 use kinds::performance::Performance;
 use kinds::weight::Weight;
 
-// The length of the row of `terms`, which stands in the first places of `room`, memory that is lent; None where it is longer
-// than the room.
+/// Merges terms into their row, in the first places of `room`, and answers its length.
+///
+/// None where the row is longer than the room. What an answer leaves of the room is free.
 pub fn merge<P: Performance, W: Weight>(
     terms: &[Term<P, W>],
     room: &mut [Term<P, W>],
@@ -17,19 +18,21 @@ pub fn merge<P: Performance, W: Weight>(
     Row::of_each(terms, room, |row, t| row.put(t))
 }
 
-// Adds one term to the row in the first `filled.len` places of `room`. None where the row grows longer than the
-// room, which then no longer holds it, or where the room is shorter than `filled.len`, and stays as it was.
+/// Adds one term to the row in the first `len` places of `room`, and answers the row's new length.
+///
+/// None where the row grows longer than the room, which then no longer holds it, or where the room
+/// is shorter than `len`, and stays as it was.
 pub fn add<P: Performance, W: Weight>(
     room: &mut [Term<P, W>],
-    filled: Filled,
+    len: usize,
     t: Term<P, W>,
-) -> Option<Filled>
-    ensures { Adds P.Performance W.Weight t filled.len room.old room.new (length_in result) }
+) -> Option<usize>
+    ensures { Adds P.Performance W.Weight t len room.old room.new result }
 {
-    if filled.len > room.len() {
+    if len > room.len() {
         return None;
     }
-    let mut row = Row::standing(room, filled);
+    let mut row = Row::standing(room, len);
     row.put(t)?;
-    Some(row.filled)
+    Some(row.len)
 }

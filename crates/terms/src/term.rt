@@ -1,16 +1,17 @@
-// Terms, and how far a room is filled with them.
+//! Terms, and the ways of combining lists of them.
 ghost use Rattle.terms.specs.Shown.{term_output};
 
 use std::fmt;
 
-// A performance and its weight.
+/// A performance and its weight, printed as `performance:weight`.
 #[derive(Clone, Copy, PartialEq, Eq, Debug)]
 pub struct Term<P, W> {
+    /// What is delivered, a value of the kind.
     pub performance: P,
+    /// How much it counts.
     pub weight: W,
 }
 
-// As performance:weight.
 impl<P: fmt::Display, W: fmt::Display> fmt::Display for Term<P, W> {
     ghost output = { λ t. term_output (P.output t.performance) (W.output t.weight) };
 
@@ -19,18 +20,11 @@ impl<P: fmt::Display, W: fmt::Display> fmt::Display for Term<P, W> {
     }
 }
 
-// How two lists are combined.
+/// How two lists are combined.
 #[derive(Clone, Copy, PartialEq, Eq, Debug)]
 pub enum Way {
+    /// By the kind's operation in series.
     Series,
+    /// By the kind's operation in parallel.
     Parallel,
-}
-
-// How much of a room is filled: the row in it has `len` terms. `last` is the place of the term that was
-// merged last, where the search for the next one begins; it is a hint, and any number does. It lies beside the room because the
-// room is the caller's: memory is lent from call to call.
-#[derive(Clone, Copy, PartialEq, Eq, Debug)]
-pub struct Filled {
-    pub len: usize,
-    pub last: usize,
 }

@@ -1,9 +1,9 @@
-// Edge lists of terms, run.
+//! Lists of terms at the edges: empty, of no weight, as long as the room, at the top weight.
 use crate::bridge::bridge;
 use crate::combine::combine;
 use crate::merge::{add, merge};
 use crate::sums::availability;
-use crate::term::{Filled, Term, Way};
+use crate::term::{Term, Way};
 use kinds::values::{Flow, Parts};
 
 type State = Term<Flow, Parts>;
@@ -64,12 +64,8 @@ fn a_65th_level_is_refused(rt: HostRuntime) {
         combine(Way::Parallel, &units(), &eights[0..8], &mut room),
         Some(64)
     );
-    let full = Filled { len: 64, last: 0 };
-    assert_eq!(rt;
-        add(&mut room, full, state(63, 5)),
-        Some(Filled { len: 64, last: 63 })
-    );
-    assert_eq!(rt; add(&mut room, full, state(64, 1)), None);
+    assert_eq!(rt; add(&mut room, 64, state(63, 5)), Some(64));
+    assert_eq!(rt; add(&mut room, 64, state(64, 1)), None);
 }
 
 // How many combinations there are does not matter: 72 with 72 levels, and 81 with 9.
@@ -85,15 +81,15 @@ fn only_levels_count(rt: HostRuntime) {
         combine(Way::Series, &eights(), &eights(), &mut small),
         Some(9)
     );
-    let ten = Filled { len: 10, last: 0 };
     assert_eq!(rt;
-        add(&mut small, ten, state(0, 1)),
+        add(&mut small, 10, state(0, 1)),
         None,
         "a room of 9 places holds no 10 terms"
     );
 }
 
-// Arms of 1, 4, 10, 2 and 9 pass 5; with an arm of 0 in half of the parts, what the other paths pass.
+// Arms of 1, 4, 10, 2 and 9 pass 5; with an arm of 0 in half of the parts, what the other paths
+// pass.
 #[test]
 fn a_bridge_of_single_states(rt: HostRuntime) {
     let (a, b, c, d, e) = (

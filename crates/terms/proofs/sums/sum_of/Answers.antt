@@ -1,6 +1,6 @@
 use Rattle.std.proofs.Common.{sym, ap, ◌∙◌}
 use Rattle.kinds.proofs.Lawful.{lawful_weight}
-use Rattle.terms.proofs.Looping.{sum_more}
+use Rattle.terms.proofs.Summing.{sum_more}
 use Rattle.terms.proofs.sums.sum_of.Goals as goal
 
 pub loop-t-preserved : goal.loop-t-preserved

@@ -3,7 +3,4 @@ use Rattle.terms.proofs.Combining.{bridges_keep}
 use Rattle.terms.proofs.theorems.bridging_keeps_distributions.Goals as goal
 
 pub returns : goal.returns
-returns g c =
-    let k = lawful_kind g.met.P.Performance in
-    let w = lawful_weight g.met.W.Weight in
-    bridges_keep k w
+returns g c = bridges_keep (lawful_kind g.met.P.Performance) (lawful_weight g.met.W.Weight)

@@ -5,4 +5,4 @@ use Rattle.terms.proofs.Voiding.{void_d}
 use Rattle.terms.proofs.bridge.Arms.with_b.Goals as goal
 
 pub returns : goal.returns
-returns g c = c.for_each_times.ensures (λ t. with_d g.P.Performance g.W.Weight c.args.a c.args.b.performance t c.args.self.now.e.now c.args.self.now.c.now) (search rules) (void_d (lawful_kind g.met.P.Performance) (lawful_weight g.met.W.Weight) c.args.a c.args.b.performance c.args.self.now.e.now c.args.self.now.c.now)
+returns g c = c.for_each_times.ensures (λ t. with_d g.P.Performance g.W.Weight c.args.a c.args.b.performance t c.args.self.now) (search rules) (void_d (lawful_kind g.met.P.Performance) (lawful_weight g.met.W.Weight) c.args.a c.args.b.performance c.args.self.now)

@@ -9,13 +9,13 @@ use Rattle.terms.proofs.row.Row.insert.Goals as goal
 pub returns-then-self : goal.returns-then-self
 returns-then-self g c =
     let before = c.args.self.now in
-    let row = take before.filled.len before.room.now in
+    let row = take before.len before.room.now in
     record {
       same_room = refl;
       merged = λ h at. (
         insert row c.args.at c.args.t,
         something_row (lawful_kind g.met.P.Performance) (lawful_weight g.met.W.Weight) _ _ _ (sym c.if-weighs_nothing.ensures) h at,
-        let m = length-take-le before.filled.len before.room.now before.fits in
+        let m = length-take-le before.len before.room.now before.fits in
             omega (arith, length-insert row c.args.at c.args.t (omega arith)),
       );
     }
@@ -27,7 +27,7 @@ returns g c =
       same_room = search rules;
       merged = λ h at. (
         simp length-set (omega (arith, c.copy_within.ensures.len, before.fits)),
-        rw (c.copy_within.ensures.after, put_between before.room.now before.filled.len c.args.at c.args.t c.requires (omega (arith, before.fits)))
+        rw (c.copy_within.ensures.after, put_between before.room.now before.len c.args.at c.args.t c.requires (omega (arith, before.fits)))
             (something_row (lawful_kind g.met.P.Performance) (lawful_weight g.met.W.Weight) _ _ _ (sym c.if-weighs_nothing.ensures) h at),
       );
     }

@@ -11,7 +11,7 @@ returns g c = λ f maps.
     let k = lawful_kind g.met.P.Performance in
     let w = lawful_weight g.met.W.Weight in
     let v = g.W.Weight in
-    c.for_each_run.ensures (λ p u. term (f p) u ∷ []) (λ q u. term q u ∷ []) record {
+    c.for_each_group.ensures (λ p u. term (f p) u ∷ []) (λ q u. term q u ∷ []) record {
       keys = λ p q u made r. ap (λ z. v.sum (share g.P.Performance v r (term z u)) v.nothing) (maps p q made);
       same = search rules;
       steps = search rules;
