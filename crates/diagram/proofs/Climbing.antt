@@ -3,7 +3,7 @@ use Rattle.std.proofs.Common.{ℕ, ◌<◌, Contains, arith}
 use Rattle.std.proofs.lemmas.List.Elements.{All-contains}
 use Rattle.diagram.specs.declared.table.Table.{Table}
 use Rattle.diagram.specs.Records.{Sound, Uses, children_at, Beneath, child, deeper}
-use Rattle.diagram.proofs.Naming.{test_finds, found_by_test}
+use Rattle.diagram.proofs.FoundByTest.{test_finds, found_by_test}
 
 -- j is a user of k, or a user of such a one, and so on
 pub data Above (t : Table) : ℕ → ℕ → Type 0 where

@@ -1,5 +1,5 @@
 -- Joined nodes collected in turn, after any run: what the first refusal is, and which rows are left.
-use Rattle.std.proofs.Common.{◌≡◌, ◌≢◌, ℕ, ◌+◌, ◌<◌, ◌≤◌, ◌⊎◌, List, ◌∷◌, length, All, Result, Ok, Err, sym, ◌∙◌, ap, refl, subst, inl, inr, arith}
+use Rattle.std.proofs.Common.{◌≡◌, ◌≢◌, ℕ, ◌+◌, ◌<◌, ◌≤◌, List, ◌∷◌, length, All, Result, Ok, Err, sym, ◌∙◌, ap, refl, subst, inl, inr, arith}
 use borrow.Author.Count.{below_more}
 use Rattle.kinds.specs.declared.performance.Performance
 use Rattle.kinds.specs.declared.weight.Weight
@@ -10,31 +10,67 @@ use Rattle.terms.specs.Enumeration.{enumeration}
 use Rattle.diagram.specs.declared.diagram.Diagram.{Diagram}
 use Rattle.diagram.specs.declared.limits.TheConstants.{STORE}
 use Rattle.diagram.specs.declared.node.Form.TheVariants.{Part}
+use Rattle.diagram.specs.declared.node.Status.TheVariants.{UpToDate}
 use Rattle.diagram.specs.declared.refusal.Refusal.{Refusal}
 use Rattle.diagram.specs.declared.refusal.Refusal.TheVariants.{LongArm, LongResult}
 use Rattle.diagram.specs.declared.refusal.RefusedAt.{RefusedAt}
 use Rattle.diagram.specs.Refusals.{Asked}
+use Rattle.diagram.specs.declared.table.Table.{Table}
 use Rattle.diagram.specs.Calls.{Collected}
-use Rattle.diagram.specs.Histories.{collecting, number, Reply, Entry, History, collecting_by, made, making_of, drawing_of, states_of, children_of, IsPart, Answers}
-use Rattle.diagram.specs.InTurn.{CollectedTo, none_yet, past_part, one_more, CollectsInTurn, Short, TooLong, FirstAnswer, Leaves, CollectsAll}
-use Rattle.diagram.specs.Records.{form_at, children_at}
+use Rattle.diagram.specs.Changes.{NodeCollected}
+use Rattle.diagram.specs.Histories.{collecting, number, Reply, Entry, History, made, drawing_of, children_of, IsPart, Answers}
+use Rattle.diagram.specs.InTurn.{CollectedTo, none_yet, past_part, one_more, InTurn, CollectsInTurn, Short, TooLong, FirstAnswer, Leaves, CollectsAll}
+use Rattle.diagram.specs.Records.{form_at, status_at, children_at}
 use Rattle.diagram.specs.RightAnswers.{RightAnswer, RowOfNode, ArmsShort, ResultsShort}
-use Rattle.diagram.specs.Runs.{told, Run, next}
+use Rattle.diagram.specs.Runs.{as_reply, Run, next}
 use Rattle.diagram.specs.Shown.{records}
 use Rattle.diagram.specs.Store.{Kept}
 use Rattle.diagram.proofs.Drawn.{drawn_form}
 use Rattle.diagram.proofs.Promise.{run_right}
 use Rattle.diagram.proofs.Questions.{HoldsAfter, part_question, children_same}
-use Rattle.diagram.proofs.Since.{since_now, since_kept}
+use Rattle.diagram.proofs.CollectedSince.{since_now, since_kept}
+use Rattle.diagram.proofs.RunGoesOn.{granted, given, accepted, ok_not_err, ok_same}
 use Rattle.diagram.proofs.Standing.{rows_stand, kept_same, kept_on, kept_more, collected_kept, collecting_refused}
 
-granted : {q refused rest : Type 0} → q → Asked q refused rest → rest
-granted q (inl x) = x.1
-granted q (inr x) = absurd (x.0 q)
+module _ {P W : Type 0} (kind : Performance.Ghosts P) (weights : Weight.Ghosts W) (d : Diagram P W) (s : List (Term P W)) where
+  -- whatever diagram it is: once the joined ones of the first n nodes are collected, these are up to date
+  abbrev Current : Diagram P W → ℕ → Type 0
+  Current d' n = ((records d').count ≡ (records d).count) × ((k : ℕ) → k < n → status_at (records d') k ≡ UpToDate)
 
-given : {A B q rest : Type 0} {a : A} {e : B} → Asked q (Ok a ≡ Err e) rest → q × rest
-given (inl x) = x
-given (inr x) = let e = x.1 in absurd (cc)
+  pub current_to : {n : ℕ} {d' : Diagram P W} {s' : List (Term P W)} → n ≤ (records d).count → CollectedTo kind weights d s n d' s' → Current d' n
+  current_to few none_yet = (refl, λ k l. absurd (omega (arith, l)))
+  current_to few (past_part {n} {d'} c is) =
+      let before = current_to (omega (arith, few)) c in
+      let there : n < (records d').count = omega (arith, few, before.0) in
+      (before.0, below_more (λ k. status_at (records d') k ≡ UpToDate) n before.1 ((d'.sound.at n there).own.part_is_current is))
+  current_to few (one_more {n} {size} {d'} {d''} c x) =
+      let before = current_to (omega (arith, few)) c in
+      let there : n < (records d').count = omega (arith, few, before.0) in
+      let made = (node_collected x) in (
+        made.number ∙ before.0,
+        below_more (λ k. status_at (records d'') k ≡ UpToDate) n
+            (λ k l. ap (λ node. node.status) (made.others k (omega (arith, l, there)) (λ e. omega (arith, e, l))) ∙ before.1 k l)
+            (ap (λ node. node.status) made.collected),
+      )
+    where
+      node_collected : {t t' : Table} {s s' : List (Term P W)} {k size : ℕ} → Collected kind weights t s k (Ok size) t' s' → NodeCollected t t' k size
+      node_collected x =
+          let it = (accepted (accepted (accepted (accepted (accepted x).1).1).1).1).1 in
+          elim it [
+            | inl (fit, y) ↦ subst (NodeCollected _ _ _) (ok_same (sym y.2)) y.3
+            | inr (long, y) ↦ absurd (ok_not_err y.answer)
+          ]
+
+  -- what collecting in turn keeps of a store, whatever it answers
+  kept_to : {n : ℕ} {d' : Diagram P W} {s' : List (Term P W)} → CollectedTo kind weights d s n d' s' → Kept (λ j. j < n) s s'
+  kept_to none_yet = kept_same refl
+  kept_to (past_part c is) = kept_more (λ j l. omega (arith, l)) (kept_to c)
+  kept_to (one_more {n} {size} c x) = kept_on (kept_more (λ j l. omega (arith, l)) (kept_to c)) (collected_kept kind weights {free = λ j. j < n + 1} (Ok size) (omega arith) x)
+
+  pub kept_in_turn : (d' : Diagram P W) (s' : List (Term P W)) (r : Result (Unit {0}) RefusedAt) → CollectsInTurn kind weights d s r d' s' → Kept (λ j. j < (records d).count) s s'
+  kept_in_turn d' s' r (inr (short, x)) = kept_same x.2
+  kept_in_turn d' s' (Ok _) (inl (roomy, x)) = kept_to x.0
+  kept_in_turn d' s' (Err at) (inl (roomy, (between, left, c, node, joined, x))) = kept_on (kept_more (λ j l. omega (arith, l, node)) (kept_to c)) (collecting_refused kind weights x)
 
 module _ {P W : Type 0} (kind : Performance.Ghosts P) (weights : Weight.Ghosts W) (laws : Kind kind) (weigh : Weighing weights) where
   abbrev Terms : Type 0
@@ -83,10 +119,10 @@ module _ {P W : Type 0} (kind : Performance.Ghosts P) (weights : Weight.Ghosts W
 
       -- a collecting more: the run goes on, and its answer is right
       module _ {n : ℕ} {d' : Diagram P W} {s' s'' : Terms} (at : Reached n d' s') (d'' : Diagram P W) (r : Result ℕ Refusal) (x : Collected kind weights (records d') s' n r (records d'') s'') where
-        goes_on : Run kind weights (entry n (length s') (told number r) ∷ at.calls) d'' s''
-        goes_on = next (collecting n) s' s'' (told number r) at.so_far (omega (arith, roomy, at.long)) refl (r, x, refl)
+        goes_on : Run kind weights (entry n (length s') (as_reply number r) ∷ at.calls) d'' s''
+        goes_on = next (collecting n) s' s'' (as_reply number r) at.so_far (omega (arith, roomy, at.long)) refl (r, x, refl)
 
-        right : RightAnswer kind weights at.calls (told number r) (collecting n)
+        right : RightAnswer kind weights at.calls (as_reply number r) (collecting n)
         right = granted (omega (arith, roomy, at.long)) (run_right kind weights laws weigh _ d'' s'' goes_on).0.0
 
       reached : {n : ℕ} {d' : Diagram P W} {s' : Terms} → n ≤ made h → CollectedTo kind weights d s n d' s' → Reached n d' s'
@@ -158,13 +194,16 @@ module _ {P W : Type 0} (kind : Performance.Ghosts P) (weights : Weight.Ghosts W
           long (inl (a, inr (n, is))) = inr (a, n, err_same is)
           long (inl (a, inl (b, (row, of, is)))) = absurd (cc)
 
-  -- so it is after every run
-  pub in_runs : (d d' : Diagram P W) (s s' : Terms) (r : Result (Unit {0}) RefusedAt) → CollectsInTurn kind weights d s r d' s' → CollectsAll kind weights d s r d' s'
-  in_runs d d' s s' (Ok _) c h run roomy =
+  turned : (d d' : Diagram P W) (s s' : Terms) (r : Result (Unit {0}) RefusedAt) → InTurn kind weights d s r d' s' → CollectsAll kind weights d s r d' s'
+  turned d d' s s' (Ok _) (c, current) h run roomy =
       let all : (records d).count ≡ made h = (holds h d s run roomy h d s run).count in
       let at = reached h d s run roomy (omega arith) (subst (λ n. CollectedTo kind weights d s n d' s') all c) in
       inr (at.through.short, (refl, leaves h d s run roomy (made h) at.calls d' s' (omega arith) at.so_far at.through.first at.kept))
-  in_runs d d' s s' (Err at) (between, left, c, node, joined, x) h run roomy =
+  turned d d' s s' (Err at) (between, left, c, node, joined, x) h run roomy =
       let all = (holds h d s run roomy h d s run).count in
       let it = stopped h d s run roomy (omega (arith, node, all)) c joined x in
       inl (at.node, at.refusal, omega (arith, node, all), it.0, it.1, (refl, it.2))
+
+  -- so it is after every run
+  pub in_runs : (d d' : Diagram P W) (s s' : Terms) (r : Result (Unit {0}) RefusedAt) → CollectsInTurn kind weights d s r d' s' → CollectsAll kind weights d s r d' s'
+  in_runs d d' s s' r x h run roomy = turned d d' s s' r (granted roomy x) h run roomy

@@ -1,12 +1,13 @@
 -- The climb from a part to the top marks what the part is beneath, and nothing else.
-use Rattle.std.proofs.Common.{◌≡◌, ◌⊎◌, ℕ, ◌-◌, ◌<◌, Option, Some, None, length, set, sym, ◌∙◌, ap, refl, subst, inl, inr, arith}
+use Rattle.std.proofs.Common.{◌≡◌, ◌⊎◌, ℕ, ◌-◌, ◌<◌, Option, Some, None, length, sym, ◌∙◌, ap, refl, subst, inl, inr, arith}
 use Rattle.std.proofs.lemmas.Bool.{cases_eq}
 use Rattle.std.proofs.lemmas.List.{get_or-set_same, get_or-set_other, length-set}
+use Rattle.diagram.specs.declared.limits.TheConstants.{NODES}
 use Rattle.diagram.specs.declared.node.Node.{Node}
 use Rattle.diagram.specs.declared.node.Status.TheVariants.{Stale}
 use Rattle.diagram.specs.declared.table.Table.{Table}
 use Rattle.diagram.specs.Records.{Sound, node_at, status_at}
-use Rattle.diagram.specs.Writing.{NodesOnly, MarkedAbove}
+use Rattle.diagram.specs.Writing.{NodesOnly, MarkedAbove, with_stale}
 use Rattle.diagram.proofs.Climbing.{Above, user, higher, beneath_from_above, above_from_beneath}
 use Rattle.diagram.proofs.Facts.{user_of}
 
@@ -33,7 +34,7 @@ with_next {t} {now} {k} c e = subst (Climbed t now k) e c
 -- how far the next node is from the top
 abbrev pub to_top : Option ℕ → ℕ
 to_top None = 0
-to_top (Some u) = 48 - u
+to_top (Some u) = NODES - u
 
 -- what is above a node is its user or above that
 by_user : {t : Table} {k j : ℕ} → Above t k j → From t (node_at t k).user j
@@ -67,23 +68,20 @@ module _ {t : Table} (s : Sound t) (k : ℕ) (low : k < t.count) where
   next_in {now} {u} c = above_in s low (c.above u (inl refl))
 
   -- the next node is marked
-  pub step : {now after : Table} {u : ℕ} → length now.nodes ≡ 48 → Climbed t now k (Some u) → after ≡ record now { nodes = set now.nodes u (stale (node_at now u)) } → Climbed t after k (node_at now u).user
+  pub step : {now after : Table} {u : ℕ} → length now.nodes ≡ NODES → Climbed t now k (Some u) → after ≡ with_stale now u → Climbed t after k (node_at now u).user
   step {now} {after} {u} wide c e = subst (λ z. Climbed t z k (node_at now u).user) (sym e) here
     where
-      written : Table
-      written = record now { nodes = set now.nodes u (stale (node_at now u)) }
-
       high : u < length now.nodes
       high = omega (arith, wide, (next_in c).1, s.few)
 
       user_same : (node_at now u).user ≡ (node_at t u).user
       user_same = ap user_of (c.others u)
 
-      here : Climbed t written k (node_at now u).user
+      here : Climbed t (with_stale now u) k (node_at now u).user
       here = record {
         rest = record { nodes = length-set now.nodes u _ ∙ c.rest.nodes; children = c.rest.children; arities = c.rest.arities; count = c.rest.count };
         others = λ j. elim (cases_eq j u) [
-          | inl q ↦ ap stale (subst (λ z. node_at written z ≡ stale (node_at now z)) (sym q) (get_or-set_same now.nodes u _ _ high)) ∙ c.others j
+          | inl q ↦ ap stale (subst (λ z. node_at (with_stale now u) z ≡ stale (node_at now z)) (sym q) (get_or-set_same now.nodes u _ _ high)) ∙ c.others j
           | inr n ↦ ap stale (get_or-set_other now.nodes u j _ _ n) ∙ c.others j
         ];
         marked = λ j h. elim (cases_eq j u) [
@@ -94,16 +92,16 @@ module _ {t : Table} (s : Sound t) (k : ℕ) (low : k < t.count) where
         to_come = λ j a. elim (c.to_come j a) [
           | inl h ↦ inl (still j h)
           | inr f ↦ elim f [
-            | inl q ↦ inl (subst (λ z. status_at written z ≡ Stale) q (ap (λ (x : Node). x.status) (get_or-set_same now.nodes u _ _ high)))
+            | inl q ↦ inl (subst (λ z. status_at (with_stale now u) z ≡ Stale) q (ap (λ (x : Node). x.status) (get_or-set_same now.nodes u _ _ high)))
             | inr b ↦ inr (subst (λ o. From t o j) (sym user_same) (by_user b))
           ]
         ];
         above = λ j f. c.above j (inr (from_user (node_at now u).user (sym user_same) f));
       }
         where
-          still : (j : ℕ) → status_at now j ≡ Stale → status_at written j ≡ Stale
+          still : (j : ℕ) → status_at now j ≡ Stale → status_at (with_stale now u) j ≡ Stale
           still j h = elim (cases_eq j u) [
-            | inl q ↦ subst (λ z. status_at written z ≡ Stale) (sym q) (ap (λ (x : Node). x.status) (get_or-set_same now.nodes u _ _ high))
+            | inl q ↦ subst (λ z. status_at (with_stale now u) z ≡ Stale) (sym q) (ap (λ (x : Node). x.status) (get_or-set_same now.nodes u _ _ high))
             | inr n ↦ ap (λ (x : Node). x.status) (get_or-set_other now.nodes u j _ _ n) ∙ h
           ]
 
@@ -112,7 +110,7 @@ module _ {t : Table} (s : Sound t) (k : ℕ) (low : k < t.count) where
       let at = (next_in c).1 in
       less (node_at now u).user (sym (ap user_of (c.others u)))
     where
-      less : (o : Option ℕ) → (node_at t u).user ≡ o → to_top o < 48 - u
+      less : (o : Option ℕ) → (node_at t u).user ≡ o → to_top o < NODES - u
       less None e = omega (arith, (next_in c).1, s.few)
       less (Some v) e =
           let h = (s.at u (next_in c).1).user_above v e in

@@ -10,6 +10,7 @@ use Rattle.terms.specs.Sums.{total_of, met_of}
 use Rattle.terms.proofs.Canonical.{row_unique}
 use Rattle.terms.proofs.Deciding.{reading_decides}
 use Rattle.terms.proofs.Looping.{row_same}
+use Rattle.diagram.specs.declared.limits.TheConstants.{STORE}
 use Rattle.diagram.specs.declared.refusal.Refusal.{Refusal}
 use Rattle.diagram.specs.declared.refusal.Refusal.TheVariants.{ShortStore, NoTerm}
 use Rattle.diagram.specs.declared.diagram.Diagram.{Diagram}
@@ -19,13 +20,13 @@ use Rattle.diagram.specs.Store.{row_at}
 use Rattle.diagram.specs.Calls.{Asks}
 use Rattle.diagram.specs.Histories.{Question, size, term, total, availability, Call, adding, joining, bridging, restating, collecting, asking, Answer, number, one_term, one_weight, two_weights, Reply, Entry, History, drawing_of, states_of, CollectedSince, Answers}
 use Rattle.diagram.specs.RightAnswers.{RightAnswer, Right, RightThroughout, RowOfNode, Tells}
-use Rattle.diagram.specs.Runs.{told, Performs, Run, start, next, lent_too_few, AnswersRight, AnswersAlike}
+use Rattle.diagram.specs.Runs.{as_reply, Performs, Run, start, next, lent_too_few, AnswersRight, AnswersAlike}
 use Rattle.diagram.proofs.Collected.{none_or_some}
-use Rattle.diagram.proofs.Since.{collecting_in}
-use Rattle.diagram.proofs.Holding.{blank_holds, same_places, holds_there}
-use Rattle.diagram.proofs.Placed.{none_twice}
+use Rattle.diagram.proofs.CollectedSince.{collecting_in}
+use Rattle.diagram.proofs.HistoryFits.{blank_holds, same_places, holds_there}
+use Rattle.diagram.proofs.PartsBelow.{none_twice}
 use Rattle.diagram.proofs.Questions.{HoldsAfter}
-use Rattle.diagram.proofs.Stepping.{Known, After, idle_after, refused_idle, adding_right, joining_right, bridging_right, restating_right, collecting_right, asking_right}
+use Rattle.diagram.proofs.OneCall.{Known, After, idle_after, refused_idle, adding_right, joining_right, bridging_right, restating_right, collecting_right, asking_right}
 
 module _ {P W : Type 0} (kind : Performance.Ghosts P) (weights : Weight.Ghosts W) (laws : Kind kind) (weigh : Weighing weights) where
   abbrev Terms : Type 0
@@ -34,15 +35,15 @@ module _ {P W : Type 0} (kind : Performance.Ghosts P) (weights : Weight.Ghosts W
   ok_not_err : {A B : Type 0} {a : A} {e : B} → Ok a ≡ Err e → ⊥
   ok_not_err e = true≢false (ap is_ok e)
 
-  tells_term : (row stored : Terms) (n i : ℕ) (reply : Reply P W) (r : Result (Term P W) Refusal) → row ≡ stored → length row ≡ n → reply ≡ told one_term r →
+  tells_term : (row stored : Terms) (n i : ℕ) (reply : Reply P W) (r : Result (Term P W) Refusal) → row ≡ stored → length row ≡ n → reply ≡ as_reply one_term r →
       Asked (i < n) (r ≡ Err NoTerm) (IsOkAnd r (λ x. get_or stored i x ≡ x)) → Tells kind weights row (term i) reply
   tells_term row stored n i reply (Ok x) is long e (inl (q, found)) = inl (omega (arith, q, long), (x, ap (λ z. get_or z i x) is ∙ found, e))
   tells_term row stored n i reply (Err w) is long e (inl (q, found)) = absurd found
-  tells_term row stored n i reply r is long e (inr (past, x)) = inr ((λ q. past (omega (arith, q, long))), e ∙ ap (told one_term) x)
+  tells_term row stored n i reply r is long e (inr (past, x)) = inr ((λ q. past (omega (arith, q, long))), e ∙ ap (as_reply one_term) x)
 
   -- a call that is lent enough is answered right, and all is as the longer history has it
   step : (h : History P W) (d d' : Diagram P W) (s s' : Terms) (call : Call P W) (reply : Reply P W) (lent : ℕ) →
-      HoldsAfter kind weights h d.table s → Known kind weights h d.table → 3200 ≤ length s → Performs kind weights call d.table s reply d'.table s' →
+      HoldsAfter kind weights h d.table s → Known kind weights h d.table → STORE ≤ length s → Performs kind weights call d.table s reply d'.table s' →
       RightAnswer kind weights h reply call × After kind weights h call lent reply d'.table s'
   step h d d' s s' (adding states) reply lent holds known roomy (r, a, e) =
       adding_right kind weights h d.table d'.table s s' d.sound d'.sound holds known lent laws weigh states reply r roomy a e
@@ -56,41 +57,41 @@ module _ {P W : Type 0} (kind : Performance.Ghosts P) (weights : Weight.Ghosts W
       collecting_right kind weights h d.table d'.table s s' d.sound d'.sound holds known lent laws weigh k reply r roomy a e
   step h d d' s s' (asking k size) reply lent holds known roomy ((r, a, e), same_t, same_s) =
       asking_right kind weights h d.table d'.table s s' d.sound d'.sound holds known lent k size reply r number _ roomy same_t same_s a e
-      (λ row is long x. e ∙ ap (told number) (x ∙ ap Ok (sym long)))
+      (λ row is long x. e ∙ ap (as_reply number) (x ∙ ap Ok (sym long)))
   step h d d' s s' (asking k (term i)) reply lent holds known roomy ((r, a, e), same_t, same_s) =
       asking_right kind weights h d.table d'.table s s' d.sound d'.sound holds known lent k (term i) reply r one_term _ roomy same_t same_s a e
       (λ row is long x. tells_term row (row_at d.table s k) (size_at d.table k) i reply r is long e x)
   step h d d' s s' (asking k total) reply lent holds known roomy ((r, a, e), same_t, same_s) =
       asking_right kind weights h d.table d'.table s s' d.sound d'.sound holds known lent k total reply r one_weight _ roomy same_t same_s a e
-      (λ row is long x. e ∙ ap (told one_weight) (x ∙ ap (λ z. Ok (total_of weights z)) (sym is)))
+      (λ row is long x. e ∙ ap (as_reply one_weight) (x ∙ ap (λ z. Ok (total_of weights z)) (sym is)))
   step h d d' s s' (asking k (availability demand)) reply lent holds known roomy ((r, a, e), same_t, same_s) =
       asking_right kind weights h d.table d'.table s s' d.sound d'.sound holds known lent k (availability demand) reply r (λ w. two_weights w.0 w.1) _ roomy same_t same_s a e
-      (λ row is long x. e ∙ ap (told (λ w. two_weights w.0 w.1)) (x ∙ ap (λ z. Ok (met_of kind weights demand z, total_of weights z)) (sym is)))
+      (λ row is long x. e ∙ ap (as_reply (λ w. two_weights w.0 w.1)) (x ∙ ap (λ z. Ok (met_of kind weights demand z, total_of weights z)) (sym is)))
 
   -- a call that is lent too few terms is refused with that, and nothing has changed
   too_few : (h : History P W) (d d' : Diagram P W) (s lent left : Terms) (call : Call P W) (reply : Reply P W) →
-      HoldsAfter kind weights h d.table s → Known kind weights h d.table → length lent < 3200 → Performs kind weights call d.table lent reply d'.table left →
+      HoldsAfter kind weights h d.table s → Known kind weights h d.table → length lent < STORE → Performs kind weights call d.table lent reply d'.table left →
       (reply ≡ Err ShortStore) × After kind weights h call (length lent) reply d'.table s
   too_few h d d' s lent left call reply holds known few x = let y = first call x in (y.0, after y.0 y.1)
     where
-      short : ¬ (3200 ≤ length lent)
+      short : ¬ (STORE ≤ length lent)
       short q = omega (arith, few, q)
 
-      asked : {A : Type 0} (k : ℕ) (r : Result A Refusal) (to : A → Answer P W) (told_so : Type 0) → Asks kind weights d.table lent k r told_so → reply ≡ told to r → reply ≡ Err ShortStore
+      asked : {A : Type 0} (k : ℕ) (r : Result A Refusal) (to : A → Answer P W) (told_so : Type 0) → Asks kind weights d.table lent k r told_so → reply ≡ as_reply to r → reply ≡ Err ShortStore
       asked k r to told_so (inl (q, y)) e = absurd (short q)
-      asked k r to told_so (inr (n, y)) e = e ∙ ap (told to) y
+      asked k r to told_so (inr (n, y)) e = e ∙ ap (as_reply to) y
 
       first : (call : Call P W) → Performs kind weights call d.table lent reply d'.table left → (reply ≡ Err ShortStore) × (d'.table ≡ d.table)
       first (adding states) (r, inl (q, a), e) = absurd (short q)
-      first (adding states) (r, inr (n, y), e) = (e ∙ ap (told number) y.answer, y.records)
+      first (adding states) (r, inr (n, y), e) = (e ∙ ap (as_reply number) y.answer, y.records)
       first (joining way children) (r, inl (q, a), kept, e) = absurd (short q)
-      first (joining way children) (r, inr (n, y), kept, e) = (e ∙ ap (told number) y.answer, y.records)
+      first (joining way children) (r, inr (n, y), kept, e) = (e ∙ ap (as_reply number) y.answer, y.records)
       first (bridging a b c x y) (r, inl (q, z), kept, e) = absurd (short q)
-      first (bridging a b c x y) (r, inr (n, z), kept, e) = (e ∙ ap (told number) z.answer, z.records)
+      first (bridging a b c x y) (r, inr (n, z), kept, e) = (e ∙ ap (as_reply number) z.answer, z.records)
       first (restating k states) (r, inl (q, a), e) = absurd (short q)
-      first (restating k states) (r, inr (n, y), e) = (e ∙ ap (told number) y.answer, y.records)
+      first (restating k states) (r, inr (n, y), e) = (e ∙ ap (as_reply number) y.answer, y.records)
       first (collecting k) (r, inl (q, a), e) = absurd (short q)
-      first (collecting k) (r, inr (n, y), e) = (e ∙ ap (told number) y.answer, y.records)
+      first (collecting k) (r, inr (n, y), e) = (e ∙ ap (as_reply number) y.answer, y.records)
       first (asking k size) ((r, a, e), same_t, same_s) = (asked k r number _ a e, same_t)
       first (asking k (term i)) ((r, a, e), same_t, same_s) = (asked k r one_term _ a e, same_t)
       first (asking k total) ((r, a, e), same_t, same_s) = (asked k r one_weight _ a e, same_t)
@@ -137,7 +138,7 @@ module _ {P W : Type 0} (kind : Performance.Ghosts P) (weights : Weight.Ghosts W
   is_node h d s k holds (inr c) = holds.since_made k c
 
   -- a node that answers, asked next, tells its row
-  asked_row : (h : History P W) (d : Diagram P W) (s : Terms) (k lent : ℕ) (question : Question P) (reply : Reply P W) → 3200 ≤ lent → Answers h k → HoldsAfter kind weights h d.table s →
+  asked_row : (h : History P W) (d : Diagram P W) (s : Terms) (k lent : ℕ) (question : Question P) (reply : Reply P W) → STORE ≤ lent → Answers h k → HoldsAfter kind weights h d.table s →
       Right kind weights h (record { call = asking k question; lent = lent; reply = reply }) → (row : Terms) × RowOfNode kind weights h k row × Tells kind weights row question reply
   asked_row h d s k lent question reply roomy answers holds (inr (n, e)) = absurd (n roomy)
   asked_row h d s k lent question reply roomy answers holds (inl (q, inr (n, e))) = let b = is_node h d s k holds answers in absurd (n (omega (arith, b, holds.count)))

@@ -8,6 +8,7 @@ use Rattle.kinds.proofs.Lawful.{Kind, Weighing}
 use Rattle.terms.specs.declared.term.Term.{Term}
 use Rattle.terms.specs.declared.term.Way.{Way}
 use Rattle.terms.proofs.Canonical.{row_unique}
+use Rattle.diagram.specs.declared.limits.TheConstants.{NODES, ARM_TERMS}
 use Rattle.diagram.specs.declared.node.Form.{Form}
 use Rattle.diagram.specs.declared.node.Form.TheVariants.{Part, Joined, Bridge}
 use Rattle.diagram.specs.declared.node.Status.TheVariants.{UpToDate}
@@ -17,10 +18,10 @@ use Rattle.diagram.specs.Store.{row_at}
 use Rattle.diagram.specs.Calls.{Free, ArmsFit}
 use Rattle.diagram.specs.Histories.{Making, added, joined_from, bridged_from, named_by, History, made, making_of, drawing_of, states_of, children_of, IsPart, Unused, CollectedSince, Answers}
 use Rattle.diagram.specs.RightAnswers.{RowOfNode, ArmsShort}
-use Rattle.diagram.proofs.Naming.{test_finds, found_by_test}
+use Rattle.diagram.proofs.FoundByTest.{test_finds, found_by_test}
 use Rattle.diagram.proofs.Climbing.{child_is_below}
 use Rattle.diagram.proofs.Facts.{is_part}
-use Rattle.diagram.proofs.Holding.{Matches, Holds}
+use Rattle.diagram.proofs.HistoryFits.{Matches, Holds}
 
 part_not_joined : {f : Form} → f ≡ Part → is_part f ≡ true
 part_not_joined e = ap is_part e
@@ -52,7 +53,7 @@ module _ {P W : Type 0} (kind : Performance.Ghosts P) (weights : Weight.Ghosts W
   pub node_question : (k : ℕ) → (k < t.count) ↔ (k < made h)
   node_question k = (λ l. omega (arith, l, holds.count), λ l. omega (arith, l, holds.count))
 
-  pub room_question : (t.count < 48) ↔ (made h < 48)
+  pub room_question : (t.count < NODES) ↔ (made h < NODES)
   room_question = (λ l. omega (arith, l, holds.count), λ l. omega (arith, l, holds.count))
 
   pub nodes_question : (cs : List ℕ) → All (λ c. c < t.count) cs ↔ All (λ c. c < made h) cs
@@ -127,18 +128,18 @@ module _ {P W : Type 0} (kind : Performance.Ghosts P) (weights : Weight.Ghosts W
     )
       where
         Short : ℕ → Type 0
-        Short arm = (row : List (Term P W)) → RowOfNode kind weights h arm row → length row ≤ 24
+        Short arm = (row : List (Term P W)) → RowOfNode kind weights h arm row → length row ≤ ARM_TERMS
 
         known : (i d : ℕ) → i < length (children_at t k) → get_or (children_at t k) i d < t.count
         known i d l = child_known k b _ (Contains-get_or (children_at t k) i d l)
 
-        fits : All Short (children_at t k) → All (λ c. size_at t c ≤ 24) (children_at t k)
+        fits : All Short (children_at t k) → All (λ c. size_at t c ≤ ARM_TERMS) (children_at t k)
         fits a i d l =
             let c = known i d l in
             let up = current i d l in
             omega (arith, holds.full _ c up, a i d l (row_at t s _) (holds.rows _ c up))
 
-        by : (m : Making P W) → making_of h k ≡ Some m → Matches m t k → form_at t k ≡ Bridge → ArmsShort kind weights h k → All (λ c. size_at t c ≤ 24) (children_at t k)
+        by : (m : Making P W) → making_of h k ≡ Some m → Matches m t k → form_at t k ≡ Bridge → ArmsShort kind weights h k → All (λ c. size_at t c ≤ ARM_TERMS) (children_at t k)
         by (added states) e x p short = absurd (bridge_not_part (sym x.0 ∙ p))
         by (joined_from way named) e x p short = absurd (bridge_not_joined (sym x.0 ∙ p))
         by (bridged_from a₁ a₂ a₃ a₄ a₅) e x p short = fits (subst (All Short) (children_same k b) (short a₁ a₂ a₃ a₄ a₅ e))

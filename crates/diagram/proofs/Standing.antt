@@ -1,27 +1,27 @@
 -- The row of a node that answers stands in its places, after any run; and what calls keep of a store.
 use Rattle.std.proofs.Common.{◌≡◌, ℕ, ◌<◌, List, length, take, drop, Result, Ok, Err, is_ok, sym, ◌∙◌, ap, subst, inl, inr, arith}
-use Rattle.std.proofs.lemmas.Bool.{true≢false}
 use Rattle.kinds.specs.declared.performance.Performance
 use Rattle.kinds.specs.declared.weight.Weight
 use Rattle.kinds.proofs.Lawful.{Kind, Weighing}
 use Rattle.terms.specs.declared.term.Term.{Term}
 use Rattle.terms.specs.Enumeration.{enumeration}
 use Rattle.terms.specs.Rows.{RowOf}
+use Rattle.diagram.specs.declared.limits.TheConstants.{NODES, STORE}
 use Rattle.diagram.specs.declared.diagram.Diagram.{Diagram}
 use Rattle.diagram.specs.declared.refusal.Refusal.{Refusal}
 use Rattle.diagram.specs.declared.table.Table.{Table}
 use Rattle.diagram.specs.declared.node.Status.TheVariants.{UpToDate}
 use Rattle.diagram.specs.Records.{status_at}
 use Rattle.diagram.specs.Refusals.{Asked}
-use Rattle.diagram.specs.Changes.{NodeCollected}
 use Rattle.diagram.specs.Store.{StandsAt, Kept, RowPut, places_of, row_at}
 use Rattle.diagram.specs.Standing.{RowsStand}
-use Rattle.diagram.specs.Calls.{Refused, TooLong, Added, Collected}
+use Rattle.diagram.specs.Calls.{Refused, Added, Collected}
 use Rattle.diagram.specs.Histories.{History, made, drawing_of, states_of, Answers}
 use Rattle.diagram.specs.RightAnswers.{RowOfNode}
 use Rattle.diagram.specs.Runs.{Run}
 use Rattle.diagram.proofs.Promise.{run_right}
 use Rattle.diagram.proofs.Questions.{HoldsAfter, current_question}
+use Rattle.diagram.proofs.RunGoesOn.{ok_not_err}
 
 module _ {P W : Type 0} (kind : Performance.Ghosts P) (weights : Weight.Ghosts W) (laws : Kind kind) (weigh : Weighing weights) where
   module _ (h : History P W) (d : Diagram P W) (s : List (Term P W)) (run : Run kind weights h d s) (k : ℕ) (node : k < made h) (answers : Answers h k) where
@@ -31,7 +31,7 @@ module _ {P W : Type 0} (kind : Performance.Ghosts P) (weights : Weight.Ghosts W
     there : k < d.table.count
     there = omega (arith, node, holds.count)
 
-    pub has_places : k < 48
+    pub has_places : k < NODES
     has_places = let few = d.sound.few in omega (arith, there, few)
 
     up_to_date : status_at d.table k ≡ UpToDate
@@ -57,7 +57,7 @@ module _ {P W : Type 0} (kind : Performance.Ghosts P) (weights : Weight.Ghosts W
 
 module _ {T : Type 0} {free : ℕ → Type 0} where
   pub kept_same : {before after : List T} → after ≡ before → Kept free before after
-  kept_same e = record { places = λ j l other. ap (places_of j) e; tail = ap (drop 3200) e; as_long = ap length e }
+  kept_same e = record { places = λ j l other. ap (places_of j) e; tail = ap (drop STORE) e; as_long = ap length e }
 
   pub kept_on : {a b c : List T} → Kept free a b → Kept free b c → Kept free a c
   kept_on x y = record { places = λ j l other. y.places j l other ∙ x.places j l other; tail = y.tail ∙ x.tail; as_long = y.as_long ∙ x.as_long }
@@ -73,9 +73,6 @@ module _ {T : Type 0} {free : ℕ → Type 0} where
   or_kept (inl x) after = after x.1
   or_kept (inr x) after = kept_same x.1.store
 
-ok_not_err : {A B : Type 0} {a : A} {e : B} → Ok a ≡ Err e → ⊥
-ok_not_err e = true≢false (ap is_ok e)
-
 or_same : {A T rest q : Type 0} {t t' : Table} {s s' : List T} {r : Result A Refusal} {why : Refusal} → Asked q (Refused t s r t' s' why) rest → (rest → s' ≡ s) → s' ≡ s
 or_same (inl x) after = after x.1
 or_same (inr x) after = x.1.store
@@ -90,15 +87,13 @@ module _ {P W : Type 0} (kind : Performance.Ghosts P) (weights : Weight.Ghosts W
 
   -- so does collecting, but that it may be refused for what the working rows have shown
   pub collected_kept : {free : ℕ → Type 0} {k : ℕ} (r : Result ℕ Refusal) → free k → Collected kind weights t s k r t' s' → Kept free s s'
-  collected_kept {free} {k} r is x = or_kept x (λ x. or_kept x (λ x. or_kept x (λ x. or_kept x (λ x. or_kept x (λ x. at x.3)))))
-    where
-      at : {q : Type 0} {row : List (Term P W)} → Asked q (TooLong t s r t' s') ((r ≡ Ok (length row)) × NodeCollected t t' k (length row) × RowPut k row s s') → Kept free s s'
-      at (inl (short, x)) = put_kept is x.2
-      at (inr (long, x)) = kept_more (λ j none. absurd none) x.store
+  collected_kept {free} {k} r is x = or_kept x (λ x. or_kept x (λ x. or_kept x (λ x. or_kept x (λ x. or_kept x (λ x. elim x [
+    | inl (fit, x) ↦ put_kept is x.4
+    | inr (long, x) ↦ kept_more (λ j none. absurd none) x.store
+  ])))))
 
   pub collecting_refused : {free : ℕ → Type 0} {k : ℕ} {why : Refusal} → Collected kind weights t s k (Err why) t' s' → Kept free s s'
-  collecting_refused {free} {k} {why} x = or_kept x (λ x. or_kept x (λ x. or_kept x (λ x. or_kept x (λ x. or_kept x (λ x. at x.3)))))
-    where
-      at : {q : Type 0} {row : List (Term P W)} → Asked q (TooLong {A = ℕ} t s (Err why) t' s') (◌≡◌ {A = Result ℕ Refusal} (Err why) (Ok (length row)) × NodeCollected t t' k (length row) × RowPut k row s s') → Kept free s s'
-      at (inl (short, x)) = absurd (ok_not_err (sym x.0))
-      at (inr (long, x)) = kept_more (λ j none. absurd none) x.store
+  collecting_refused x = or_kept x (λ x. or_kept x (λ x. or_kept x (λ x. or_kept x (λ x. or_kept x (λ x. elim x [
+    | inl (fit, x) ↦ absurd (ok_not_err (sym x.2))
+    | inr (long, x) ↦ kept_more (λ j none. absurd none) x.store
+  ])))))

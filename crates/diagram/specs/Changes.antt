@@ -27,7 +27,7 @@ module _ (t : Table) (t' : Table) where
     pub others : (j : ℕ) → j < t.count → ¬ Contains named j → node_at t' j ≡ node_at t j
     pub children : SameChildren
 
-  -- part k is restated, with a row of so many terms: stale is afterwards what was so before, and what k is beneath
+  -- part k is restated, with a row of so many terms: stale is then what was so before, and what k is beneath
   pub record PartRestated (k size : ℕ) : Type 0 where
     pub number : t'.count ≡ t.count
     pub resized : size_at t' k ≡ size

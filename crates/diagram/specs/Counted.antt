@@ -21,17 +21,18 @@ with_weights f (one_weight w) = one_weight (f w)
 with_weights f (two_weights met all) = two_weights (f met) (f all)
 
 module _ {P W : Type 0} (kind : Performance.Ghosts P) (count : W → ℕ) where
-  -- The true row of node k: that of all the combinations of the states last accepted for the parts beneath it, weighed with whole numbers that
-  -- never stop.
+  -- the true row of node k: that of all the combinations of the states last accepted for the parts beneath it, weighed
+  -- with whole numbers, which never stop
   abbrev pub TrueRow : History P W → ℕ → List (Term P ℕ) → Type 0
-  TrueRow h k row = RowOf kind whole_numbers (true_combinations kind count (states_of h) (drawing_of h k)) row
+  TrueRow h k = RowOf kind whole_numbers (true_combinations kind count (states_of h) (drawing_of h k))
 
-  -- The answer is that of the true row, each weight stopped at the top once; and where the total, so stopped, is below the top, nothing was stopped.
-  -- (What a single weight says: `CapLaws.below_top`, it is the true one if it is below the top, and `CapLaws.at_top`, else the true one may be any
-  -- from the top on.)
+  -- The answer is that of the true row, each weight stopped at the top once; and where the total, so stopped, is below
+  -- the top, nothing was stopped. (A single weight is the true one if it is below the top, `CapLaws.below_top`, else the
+  -- true one is the top or more, `CapLaws.at_top`.)
   abbrev pub StoppedOnce : ℕ → History P W → ℕ → Question P → Answer P W → Type 0
   StoppedOnce top h k question answer =
-      (row : List (Term P ℕ)) × (truth : Answer P ℕ) × TrueRow h k row × Tells kind whole_numbers row question (Ok truth)
+      (row : List (Term P ℕ)) × (truth : Answer P ℕ) × TrueRow h k row
+      × Tells kind whole_numbers row question (Ok truth)
       × (with_weights count answer ≡ with_weights (capped top) truth)
       × (capped top (total_of whole_numbers row) < top → with_weights count answer ≡ truth)
 
@@ -39,7 +40,7 @@ module _ {P W : Type 0} (kind : Performance.Ghosts P) (weights : Weight.Ghosts W
   abbrev answered : ℕ → Question P → ℕ → Answer P W → Entry P W
   answered k question lent answer = record { call = asking k question; lent = lent; reply = Ok answer }
 
-  -- where weights count up to a top, whatever a diagram answers, after whatever calls, is the truth stopped at the top once
+  -- where weights count up to a top, whatever a diagram answers is the truth, stopped at the top once
   abbrev pub WeightsStopOnce : Type 0
   WeightsStopOnce =
       (top : ℕ) (count : W → ℕ) → CountsTo top weights count →

@@ -52,8 +52,8 @@ followed_by_all ds drawing [] = ds
 followed_by_all ds drawing (c ∷ cs) = followed_by_all (more ds (drawing c)) drawing cs
 
 module _ {P W : Type 0} where
-  -- Whatever an entry says of nodes, it says by these three: the node that it makes, the part that it restates and the states, and the node
-  -- that it collects. A refused call does none of it.
+  -- Whatever an entry says of nodes, it says by these three: the node that it makes, the part that it restates with the
+  -- states, and the node that it collects. A refused call does none of it.
   abbrev pub making_by : Call P W → Reply P W → Option (ℕ × Making P W)
   making_by (adding states) (Ok (number k)) = Some (k, added states)
   making_by (joining way children) (Ok (number k)) = Some (k, joined_from way children)
@@ -147,7 +147,9 @@ module _ {P W : Type 0} where
       pub older : History P W
       pub in_order : h ≡ newer ++ collecting ∷ older
       pub collected : collects collecting ≡ Some k
-      pub none_since : (e : Entry P W) (p : ℕ) (states : List (Term P W)) → Contains newer e → restates e ≡ Some (p, states) → ¬ Beneath p (drawing_of h k)
+      pub none_since :
+          (e : Entry P W) (p : ℕ) (states : List (Term P W)) →
+          Contains newer e → restates e ≡ Some (p, states) → ¬ Beneath p (drawing_of h k)
 
     -- a part always answers; a joined node does when it is collected since
     abbrev pub Answers : ℕ → Type 0

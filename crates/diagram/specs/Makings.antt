@@ -10,7 +10,7 @@ use Rattle.diagram.specs.declared.making.Making.TheVariants.{Added, Joined, Brid
 use Rattle.diagram.specs.declared.refusal.Refusal.{Refusal}
 use Rattle.diagram.specs.Histories.{Making, added, joined_from, bridged_from, Call, adding, joining, bridging, number, History}
 use Rattle.diagram.specs.RightAnswers.{RightAnswer}
-use Rattle.diagram.specs.Runs.{told, Performs}
+use Rattle.diagram.specs.Runs.{as_reply, Performs}
 use Rattle.diagram.specs.Shown.{records}
 
 module _ {P W : Type 0} where
@@ -30,16 +30,17 @@ module _ {P W : Type 0} where
   -- the calls that made these nodes, each lent so many terms; the newest first
   abbrev pub history_of : ℕ → List (Making P W) → History P W
   history_of lent [] = []
-  history_of lent (m ∷ ms) = record { call = call_of m; lent = lent; reply = Ok (number (length ms)) } ∷ history_of lent ms
+  history_of lent (m ∷ ms) =
+      record { call = call_of m; lent = lent; reply = Ok (number (length ms)) } ∷ history_of lent ms
 
-  -- the same, each lent as many as a call asks for; what is said of nodes is the same, however many more there are
+  -- each lent as many as a call asks for, which says the same of the nodes as if there were more
   abbrev pub drawn : List (Making P W) → History P W
   drawn = history_of STORE
 
 module _ {P W : Type 0} (kind : Performance.Ghosts P) (weights : Weight.Ghosts W) where
   -- the node is made as by its call
   abbrev pub Makes : Given P W → Diagram P W → List (Term P W) → Result ℕ Refusal → Diagram P W → List (Term P W) → Type 0
-  Makes given d s r d' s' = Performs kind weights (call_of (meaning given)) (records d) s (told number r) (records d') s'
+  Makes given d s r d' s' = Performs kind weights (call_of (meaning given)) (records d) s (as_reply number r) (records d') s'
 
   -- the diagram takes node m after these
   abbrev pub TakesNext : List (Making P W) → Making P W → Type 0

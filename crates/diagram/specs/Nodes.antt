@@ -1,5 +1,6 @@
 -- What the record of one node tells.
 use Rattle.std.specs.Prelude.{◌≡◌, ℕ, ◌≤◌, None}
+use Rattle.diagram.specs.declared.limits.TheConstants.{FEWEST_CHILDREN, CHILDREN, ARMS, TERMS}
 use Rattle.diagram.specs.declared.node.Form.{Form}
 use Rattle.diagram.specs.declared.node.Form.TheVariants.{Part, Joined, Bridge}
 use Rattle.diagram.specs.declared.node.Status.{Status}
@@ -11,12 +12,12 @@ use Rattle.diagram.specs.declared.node.Node.{Node}
 -- how many children a form takes
 abbrev pub Takes : Form → ℕ → Type 0
 Takes Part n = n ≡ 0
-Takes (Joined way) n = (2 ≤ n) × (n ≤ 8)
-Takes Bridge n = n ≡ 5
+Takes (Joined way) n = (FEWEST_CHILDREN ≤ n) × (n ≤ CHILDREN)
+Takes Bridge n = n ≡ ARMS
 
 -- a number of states that a part may have
 abbrev pub EnoughStates : ℕ → Type 0
-EnoughStates n = (1 ≤ n) × (n ≤ 64)
+EnoughStates n = (1 ≤ n) × (n ≤ TERMS)
 
 -- a part as it is added: up to date and without a user
 abbrev pub part_of : ℕ → Node

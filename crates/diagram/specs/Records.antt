@@ -2,6 +2,7 @@
 use Rattle.std.specs.Prelude.{◌≡◌, ◌≢◌, ℕ, ◌<◌, ◌≤◌, List, [], length, take, slice_index, slice_index_or, Some, None, All, AllPairs, Contains, IsTrue, ◌==◌}
 use Rattle.std.specs.List.{list_any}
 use Rattle.terms.specs.declared.term.Way.{Way}
+use Rattle.diagram.specs.declared.limits.TheConstants.{NODES, FEWEST_CHILDREN, CHILDREN, ARMS, TERMS}
 use Rattle.diagram.specs.declared.node.Form.{Form}
 use Rattle.diagram.specs.declared.node.Form.TheVariants.{Part, Joined, Bridge}
 use Rattle.diagram.specs.declared.node.Status.{Status}
@@ -44,11 +45,11 @@ pub data Beneath (children : ℕ → List ℕ) : ℕ → ℕ → Type 0 where
 
 -- what the record of node k tells of itself alone
 pub record Fitting (form : Form) (status : Status) (size : ℕ) (children : List ℕ) (k : ℕ) : Type 0 where
-  pub sized : size ≤ 64
+  pub sized : size ≤ TERMS
   pub part_is_current : form ≡ Part → status ≡ UpToDate
   pub part_is_alone : form ≡ Part → length children ≡ 0
-  pub joins_two_or_more : (way : Way) → form ≡ Joined way → 2 ≤ length children
-  pub bridges_five : form ≡ Bridge → length children ≡ 5
+  pub joins_two_or_more : (way : Way) → form ≡ Joined way → FEWEST_CHILDREN ≤ length children
+  pub bridges_five : form ≡ Bridge → length children ≡ ARMS
   pub children_below : All (λ c. c < k) children
   pub children_apart : AllPairs ◌≢◌ children
 
@@ -62,6 +63,6 @@ pub record SoundAt (t : Table) (k : ℕ) : Type 0 where
 
 -- what holds of the records at all times
 pub record Sound (t : Table) : Type 0 where
-  pub few : t.count ≤ 48
-  pub short : All (λ n. n ≤ 8) t.arities
+  pub few : t.count ≤ NODES
+  pub short : All (λ n. n ≤ CHILDREN) t.arities
   pub at : (k : ℕ) → k < t.count → SoundAt t k

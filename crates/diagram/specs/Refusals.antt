@@ -19,7 +19,7 @@ number_of LongResult = 12
 number_of Stale = 13
 number_of NoTerm = 14
 
--- A question before a call: after a yes the rest is so, and a no is told by its refusal. Questions stand one in the rest of
--- another, so the first no is the one that is told.
+-- A question before a call: after a yes the rest is so, and a no is told by its refusal. Questions stand one in
+-- the rest of another, so the first no is the one that is told.
 abbrev pub Asked : Type 0 → Type 0 → Type 0 → Type 0
 Asked question refused rest = (question × rest) ⊎ ((¬ question) × refused)

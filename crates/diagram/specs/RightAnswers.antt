@@ -1,16 +1,15 @@
--- The right answer to a call, after a history: question by question, in the words of the plant. `Refusals.number_of` has the number of each
--- refusal.
+-- The right answer to a call, after a history: question by question, in the words of the plant.
 use Rattle.std.specs.Prelude.{◌≡◌, ◌≢◌, ℕ, ◌<◌, ◌≤◌, List, [], ◌∷◌, length, slice_index_or, Some, Ok, Err, All, AllPairs}
 use Rattle.kinds.specs.declared.performance.Performance
 use Rattle.kinds.specs.declared.weight.Weight
 use Rattle.terms.specs.declared.term.Term.{Term}
 use Rattle.terms.specs.Rows.{RowOf}
 use Rattle.terms.specs.Sums.{total_of, met_of}
-use Rattle.terms.specs.Enumeration.{enumeration}
-use Rattle.terms.specs.Steps.{RunningResult}
+use Rattle.diagram.specs.declared.limits.TheConstants.{NODES, FEWEST_CHILDREN, CHILDREN, TERMS, ARM_TERMS, STORE}
 use Rattle.diagram.specs.declared.refusal.Refusal.TheVariants.{ShortStore, NoNumberLeft, WrongStates, WrongChildren, NoNode, InUse, Repeated, NotPart, NotJoined, StaleChild, LongArm, LongResult, Stale, NoTerm}
 use Rattle.diagram.specs.Refusals.{Asked}
 use Rattle.diagram.specs.Nodes.{EnoughStates}
+use Rattle.diagram.specs.Results.{RowOfDrawing, ResultsFit}
 use Rattle.diagram.specs.Histories.{Question, size, term, total, availability, Call, adding, joining, bridging, restating, collecting, asking, number, one_term, one_weight, two_weights, Reply, Entry, History, bridged_from, made, making_of, drawing_of, states_of, children_of, IsPart, Unused, Answers}
 
 module _ {P W : Type 0} (kind : Performance.Ghosts P) (weights : Weight.Ghosts W) where
@@ -20,22 +19,25 @@ module _ {P W : Type 0} (kind : Performance.Ghosts P) (weights : Weight.Ghosts W
   -- what a node tells whose row this is
   abbrev pub Tells : Terms → Question P → Reply P W → Type 0
   Tells row size r = r ≡ Ok (number (length row))
-  Tells row (term i) r = Asked (i < length row) (r ≡ Err NoTerm) ((t : Term P W) × (slice_index_or row i t ≡ t) × (r ≡ Ok (one_term t)))
+  Tells row (term i) r =
+      Asked (i < length row) (r ≡ Err NoTerm) ((t : Term P W) × (slice_index_or row i t ≡ t) × (r ≡ Ok (one_term t)))
   Tells row total r = r ≡ Ok (one_weight (total_of weights row))
   Tells row (availability demand) r = r ≡ Ok (two_weights (met_of kind weights demand row) (total_of weights row))
 
   module _ (h : History P W) where
     -- row is that of all the combinations of the states last accepted for the parts beneath node k
     abbrev pub RowOfNode : ℕ → Terms → Type 0
-    RowOfNode k row = RowOf kind weights (enumeration kind weights (states_of h) (drawing_of h k)) row
+    RowOfNode k = RowOfDrawing kind weights (states_of h) (drawing_of h k)
 
-    -- if k is a bridge, each arm has at most 24 terms
+    -- if k is a bridge, the row of each arm is short enough
     abbrev pub ArmsShort : ℕ → Type 0
-    ArmsShort k = (a b c d e : ℕ) → making_of h k ≡ Some (bridged_from a b c d e) → All (λ arm. (row : Terms) → RowOfNode arm row → length row ≤ 24) (children_of h k)
+    ArmsShort k =
+        (a b c d e : ℕ) → making_of h k ≡ Some (bridged_from a b c d e) →
+        All (λ arm. (row : Terms) → RowOfNode arm row → length row ≤ ARM_TERMS) (children_of h k)
 
-    -- each running result of k has at most 64 terms
+    -- each running result of k is short enough
     abbrev pub ResultsShort : ℕ → Type 0
-    ResultsShort k = (row : Terms) → RunningResult kind weights (states_of h) (drawing_of h k) row → length row ≤ 64
+    ResultsShort k = ResultsFit kind weights (states_of h) (drawing_of h k)
 
     module _ (r : Reply P W) where
       -- the questions about the children that a joining names, and its answer
@@ -49,14 +51,15 @@ module _ {P W : Type 0} (kind : Performance.Ghosts P) (weights : Weight.Ghosts W
       -- the answer r is right, after h
       abbrev pub RightAnswer : Call P W → Type 0
       RightAnswer (adding states) =
-          Asked (made h < 48) (r ≡ Err NoNumberLeft)
+          Asked (made h < NODES) (r ≡ Err NoNumberLeft)
           (Asked (EnoughStates (length states)) (r ≡ Err WrongStates)
           (r ≡ Ok (number (made h))))
       RightAnswer (joining way children) =
-          Asked (made h < 48) (r ≡ Err NoNumberLeft)
-          (Asked ((2 ≤ length children) × (length children ≤ 8)) (r ≡ Err WrongChildren)
+          Asked (made h < NODES) (r ≡ Err NoNumberLeft)
+          (Asked ((FEWEST_CHILDREN ≤ length children) × (length children ≤ CHILDREN)) (r ≡ Err WrongChildren)
           (naming children))
-      RightAnswer (bridging a b c d e) = Asked (made h < 48) (r ≡ Err NoNumberLeft) (naming (a ∷ b ∷ c ∷ d ∷ e ∷ []))
+      RightAnswer (bridging a b c d e) =
+          Asked (made h < NODES) (r ≡ Err NoNumberLeft) (naming (a ∷ b ∷ c ∷ d ∷ e ∷ []))
       RightAnswer (restating k states) =
           Asked (k < made h) (r ≡ Err NoNode)
           (Asked (IsPart h k) (r ≡ Err NotPart)
@@ -74,9 +77,9 @@ module _ {P W : Type 0} (kind : Performance.Ghosts P) (weights : Weight.Ghosts W
           (Asked (Answers h k) (r ≡ Err Stale)
           ((row : Terms) × RowOfNode k row × Tells row question r))
 
-    -- the entry is right, after h: first of all, is it lent 3,200 terms?
+    -- the entry is right, after h: first of all, is it lent enough terms?
     abbrev pub Right : Entry P W → Type 0
-    Right e = Asked (3200 ≤ e.lent) (e.reply ≡ Err ShortStore) (RightAnswer e.reply e.call)
+    Right e = Asked (STORE ≤ e.lent) (e.reply ≡ Err ShortStore) (RightAnswer e.reply e.call)
 
   -- every entry is, after those before it
   abbrev pub RightThroughout : History P W → Type 0

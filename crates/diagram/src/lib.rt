@@ -1,4 +1,4 @@
-// Diagrams: the records of a plant's nodes, and the rows that are worked out in lent memory.
+//! Diagrams: the records of a plant's nodes, and the rows that are worked out in lent memory.
 #![tactic(auto)]
 
 pub mod diagram;

@@ -3,8 +3,14 @@
 /// The most nodes of a diagram.
 pub const NODES: usize = 48;
 
+/// The fewest children that are joined in series or in parallel.
+pub const FEWEST_CHILDREN: usize = 2;
+
 /// The most children that are joined in series or in parallel.
 pub const CHILDREN: usize = 8;
+
+/// The arms of a bridge.
+pub const ARMS: usize = 5;
 
 /// The most states of a part, and the most terms of a row.
 pub const TERMS: usize = 64;

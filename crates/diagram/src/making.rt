@@ -1,7 +1,8 @@
 //! How a node is made.
+use crate::limits::ARMS;
 use terms::term::{Term, Way};
 
-/// How a node is made. `Diagram::make` makes one so; children and arms are numbers of nodes.
+/// How a node is made, by `Diagram::make`. Children and arms are numbers of nodes.
 #[derive(Clone, Copy)]
 pub enum Making<'a, P, W> {
     /// A part, from states in any order.
@@ -9,5 +10,5 @@ pub enum Making<'a, P, W> {
     /// A node joined in series or in parallel from these children, in this order.
     Joined(Way, &'a [usize]),
     /// A bridge, from its arms a to e.
-    Bridged([usize; 5]),
+    Bridged([usize; ARMS]),
 }

@@ -1,8 +1,9 @@
-// The record of one node.
+//! The record of one node.
 ghost use Rattle.std.specs.Prelude.{◌≡◌, ◌≢◌, ◌↔◌, IsTrue};
 ghost use Rattle.diagram.specs.declared.node.Form.TheVariants.{Part};
 ghost use Rattle.diagram.specs.Nodes.{Takes, part_of, joined_by, status_after};
 
+use crate::limits::{ARMS, CHILDREN, FEWEST_CHILDREN};
 use terms::term::Way;
 
 // How a node was made: added as a part, joined in series or in parallel, or joined as a bridge.
@@ -27,7 +28,8 @@ pub(crate) enum Event {
     Collected,
 }
 
-// The record of a node, but for its children. The user is the node that was joined from it; the size is how many terms its row has.
+// The record of a node, but for its children. The user is the node that was joined from it; the
+// size is how many terms its row has.
 #[derive(Clone, Copy)]
 pub(crate) struct Node {
     pub(crate) form: Form,
@@ -55,8 +57,8 @@ impl Form {
     {
         match self {
             Form::Part => n == 0,
-            Form::Joined(_) => (2..=8).contains(&n),
-            Form::Bridge => n == 5,
+            Form::Joined(_) => (FEWEST_CHILDREN..=CHILDREN).contains(&n),
+            Form::Bridge => n == ARMS,
         }
     }
 }

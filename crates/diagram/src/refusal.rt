@@ -1,35 +1,53 @@
-// Why a call is refused.
+//! Why a call is refused.
 ghost use Rattle.std.specs.Prelude.{◌≡◌, OnOk, OnErr, IfErr, IsTrue, IsFalse};
 ghost use Rattle.diagram.specs.Refusals.{number_of};
 
-// The question before a call that has the answer no; the first one, where there are several.
+/// The question before a call that has the answer no, the first one where there are several.
+///
+/// With each stands its number.
 #[derive(Clone, Copy, PartialEq, Eq, Debug)]
 pub enum Refusal {
+    /// 1: has the store at least `STORE` terms?
     ShortStore,
+    /// 2: are there fewer than `NODES` nodes?
     NoNumberLeft,
+    /// 3: are there one to `TERMS` states?
     WrongStates,
+    /// 4: are there `FEWEST_CHILDREN` to `CHILDREN` children?
     WrongChildren,
+    /// 5: is every number that of a node?
     NoNode,
+    /// 6: is every child without a user?
     InUse,
+    /// 7: is no child named twice?
     Repeated,
+    /// 8: is the node a part?
     NotPart,
+    /// 9: is the node joined?
     NotJoined,
+    /// 10: are the node's children up to date?
     StaleChild,
+    /// 11: has each arm, if the node is a bridge, at most `ARM_TERMS` terms?
     LongArm,
+    /// 12: has each running result at most `TERMS` terms?
     LongResult,
+    /// 13: is the node up to date?
     Stale,
+    /// 14: has the node's row such a term?
     NoTerm,
 }
 
 /// Where collecting one node after the other was refused: the node's number, and why.
 #[derive(Clone, Copy, PartialEq, Eq, Debug)]
 pub struct RefusedAt {
+    /// The node's number.
     pub node: usize,
+    /// Why its collecting was refused.
     pub refusal: Refusal,
 }
 
 impl Refusal {
-    // The number by which a host knows the refusal.
+    /// The number by which a host knows the refusal.
     pub fn number(self) -> u8
         ensures { result ≡ number_of self }
     {

@@ -1,21 +1,23 @@
-// The table of nodes.
-ghost use Rattle.std.specs.Prelude.{◌≡◌, ◌<◌, ◌≤◌, ◌≢◌, All, AllPairs, ◌↔◌, IsTrue, length, take, slice_set};
+//! The table of nodes.
+ghost use Rattle.std.specs.Prelude.{◌≡◌, ◌<◌, ◌≤◌, ◌≢◌, All, AllPairs, ◌↔◌, IsTrue, length, take};
 ghost use Rattle.diagram.specs.declared.node.Form.TheVariants.{Part};
-ghost use Rattle.diagram.specs.declared.node.Status.TheVariants.{Stale, UpToDate};
-ghost use Rattle.diagram.specs.Records.{Sound, node_at, form_at, status_at, size_at, children_at, Uses};
+ghost use Rattle.diagram.specs.declared.node.Status.TheVariants.{UpToDate};
+ghost use Rattle.diagram.specs.Records.{Sound, node_at, form_at, status_at, size_at, children_at};
 ghost use Rattle.diagram.specs.Changes.{PartAdded, NodeJoined, PartRestated, NodeCollected};
 ghost use Rattle.diagram.specs.Nodes.{Takes};
-ghost use Rattle.diagram.specs.Calls.{Free, ArmsFit};
-ghost use Rattle.diagram.specs.Writing.{UserSet, MarkedAbove};
+ghost use Rattle.diagram.specs.Calls.{Free, ChildrenCurrent, ArmsFit};
+ghost use Rattle.diagram.specs.Writing.{UserSet, MarkedAbove, with_stale, with_collected};
 
+use crate::limits::{ARM_TERMS, CHILDREN, NODES, TERMS};
 use crate::node::{Event, Form, Node, Status};
 
-// The records, one for each node that is made. Children stand beside the nodes: those of node k are the first `arities[k]` of its eight.
+// The records, one for each node that is made. Children stand beside the nodes: those of node k
+// are the first `arities[k]` of its places.
 #[derive(Drop)]
 pub(crate) struct Table {
-    pub(crate) nodes: [Node; 48],
-    pub(crate) children: [[usize; 8]; 48],
-    pub(crate) arities: [usize; 48],
+    pub(crate) nodes: [Node; NODES],
+    pub(crate) children: [[usize; CHILDREN]; NODES],
+    pub(crate) arities: [usize; NODES],
     pub(crate) count: usize,
 }
 
@@ -25,9 +27,9 @@ impl Table {
         ensures none { result.count ≡ 0 }
     {
         Table {
-            nodes: [Node::part(0); 48],
-            children: [[0; 8]; 48],
-            arities: [0; 48],
+            nodes: [Node::part(0); NODES],
+            children: [[0; CHILDREN]; NODES],
+            arities: [0; NODES],
             count: 0,
         }
     }
@@ -48,14 +50,14 @@ impl Table {
 
     // No joining named the node.
     pub(crate) fn is_free(&self, k: usize) -> bool
-        requires { k < 48 }
+        requires { k < NODES }
         ensures { IsTrue result ↔ Free self.now k }
     {
         self.nodes[k].user.is_none()
     }
 
     pub(crate) fn is_current(&self, k: usize) -> bool
-        requires { k < 48 }
+        requires { k < NODES }
         ensures { IsTrue result ↔ (status_at self.now k ≡ UpToDate) }
     {
         matches!(self.nodes[k].status, Status::UpToDate)
@@ -78,7 +80,7 @@ impl Table {
     pub(crate) fn children_are_current(&self, k: usize) -> bool
         requires sound { Sound self.now }
         requires node { k < self.now.count }
-        ensures { IsTrue result ↔ All (λ c. status_at self.now c ≡ UpToDate) (children_at self.now k) }
+        ensures { IsTrue result ↔ ChildrenCurrent self.now k }
     {
         for c in self.children_of(k) {
             if !self.is_current(*c) {
@@ -95,7 +97,7 @@ impl Table {
         ensures { IsTrue result ↔ ArmsFit self.now k }
     {
         match self.nodes[k].form {
-            Form::Bridge => self.children_have_at_most(24, k),
+            Form::Bridge => self.children_have_at_most(ARM_TERMS, k),
             Form::Part | Form::Joined(_) => true,
         }
     }
@@ -116,8 +118,8 @@ impl Table {
 
     pub(crate) fn add_part(&mut self, size: usize)
         requires sound { Sound self.now }
-        requires number_left { self.now.count < 48 }
-        requires fits { size ≤ 64 }
+        requires number_left { self.now.count < NODES }
+        requires fits { size ≤ TERMS }
         ensures added { PartAdded self.old self.new size }
         ensures sound { Sound self.new }
     {
@@ -129,7 +131,7 @@ impl Table {
 
     pub(crate) fn join(&mut self, form: Form, children: &[usize])
         requires sound { Sound self.now }
-        requires number_left { self.now.count < 48 }
+        requires number_left { self.now.count < NODES }
         requires takes { Takes form (length children.now) × (form ≢ Part) }
         requires nodes { All (λ c. c < self.now.count) children.now }
         requires free { All (Free self.now) children.now }
@@ -147,7 +149,7 @@ impl Table {
 
     // Makes u the user of each of these nodes.
     fn set_user(&mut self, children: &[usize], u: usize)
-        requires { All (λ c. c < 48) children.now }
+        requires { All (λ c. c < NODES) children.now }
         ensures { UserSet self.old self.new children.now u }
     {
         for c in children {
@@ -161,7 +163,7 @@ impl Table {
         requires sound { Sound self.now }
         requires node { k < self.now.count }
         requires part { form_at self.now k ≡ Part }
-        requires fits { size ≤ 64 }
+        requires fits { size ≤ TERMS }
         ensures restated { PartRestated self.old self.new k size }
         ensures sound { Sound self.new }
     {
@@ -182,8 +184,8 @@ impl Table {
 
     // Marks one node, and answers its user.
     fn mark(&mut self, k: usize) -> Option<usize>
-        requires { k < 48 }
-        ensures marked { self.new ≡ record self.old { nodes = slice_set self.old.nodes k (record (node_at self.old k) { status = Stale }) } }
+        requires { k < NODES }
+        ensures marked { self.new ≡ with_stale self.old k }
         ensures user { result ≡ (node_at self.old k).user }
     {
         let node = &mut self.nodes[k];
@@ -196,8 +198,8 @@ impl Table {
         requires sound { Sound self.now }
         requires node { k < self.now.count }
         requires joined { form_at self.now k ≢ Part }
-        requires current { All (λ c. status_at self.now c ≡ UpToDate) (children_at self.now k) }
-        requires fits { size ≤ 64 }
+        requires current { ChildrenCurrent self.now k }
+        requires fits { size ≤ TERMS }
         ensures collected { NodeCollected self.old self.new k size }
         ensures sound { Sound self.new }
     {
@@ -206,8 +208,8 @@ impl Table {
 
     // Changes one record to that of a collected node.
     fn put_collected(&mut self, k: usize, size: usize)
-        requires { k < 48 }
-        ensures { self.new ≡ record self.old { nodes = slice_set self.old.nodes k (record (node_at self.old k) { status = UpToDate; size = size }) } }
+        requires { k < NODES }
+        ensures { self.new ≡ with_collected self.old k size }
     {
         let node = &mut self.nodes[k];
         node.meet(Event::Collected);
@@ -215,12 +217,12 @@ impl Table {
     }
 }
 
-// Eight places, of which the children take the first.
-fn padded(children: &[usize]) -> [usize; 8]
-    requires { length children.now ≤ 8 }
+// The places of a node's children, of which these take the first.
+fn padded(children: &[usize]) -> [usize; CHILDREN]
+    requires { length children.now ≤ CHILDREN }
     ensures { take (length children.now) result ≡ children.now }
 {
-    let mut row = [0; 8];
+    let mut row = [0; CHILDREN];
     row[..children.len()].copy_from_slice(children);
     row
 }

@@ -1,4 +1,4 @@
-// Plants of flows and parts, run: each test is a table of calls, and of what they answer.
+//! Plants of flows and parts, run: each test is a table of calls, and of what they answer.
 use crate::diagram::Diagram;
 use crate::refusal::Refusal;
 use crate::tests::Call::{
@@ -20,7 +20,8 @@ fn state(rate: u32, count: u32) -> State {
     }
 }
 
-// So many states, of flows by equal steps. No slice: the borrow checker does not follow tables of calls that hold references.
+// So many states, of flows by equal steps. No slice: the borrow checker does not follow tables of
+// calls that hold references.
 #[derive(Clone, Copy)]
 struct States {
     number: usize,
@@ -77,7 +78,8 @@ enum Call {
     All(usize, u32),
 }
 
-// The number that a call answers: of a term its flow, of an availability what meets the need, or all.
+// The number that a call answers: of a term its flow, of an availability what meets the need, or
+// all.
 fn number_of(plant: &mut Plant, store: &mut [State], call: Call) -> Result<usize, Refusal> {
     match call {
         Add(states) => plant.add(store, &states.all()[0..states.number.min(65)]),
@@ -249,8 +251,8 @@ fn a_part_has_1_to_64_states(rt: HostRuntime) {
     );
 }
 
-// Flows 0 to 7 in parallel with 0, 8, .. 56 have 64 levels, and with 64 as a ninth 72. A last child that is surely the top would
-// leave one of them, and comes too late.
+// Flows 0 to 7 in parallel with 0, 8, .. 56 have 64 levels, and with 64 as a ninth 72. A last child
+// that is surely the top would leave one of them, and comes too late.
 #[test]
 fn a_running_result_has_64_terms(rt: HostRuntime) {
     let mut store = store();

@@ -1,4 +1,4 @@
-// The questions: size, term, total and availability of a node.
+//! The questions: size, term, total and availability of a node.
 ghost use Rattle.std.specs.Prelude.{◌≡◌, Ok};
 ghost use Rattle.diagram.specs.Shown.{records};
 ghost use Rattle.diagram.specs.Calls.{Asks, TellsSize, TellsTerm, TellsTotal, TellsAvailability};
@@ -13,7 +13,9 @@ use terms::sums::{availability, total};
 use terms::term::Term;
 
 impl<P: Performance, W: Weight> Diagram<P, W> {
-    // How many terms the row of node k has.
+    /// How many terms the row of node k has.
+    ///
+    /// Refused, as each question, in this order: 1 `ShortStore`, 5 `NoNode`, 13 `Stale`.
     pub fn size(&self, store: &[Term<P, W>], k: usize) -> Result<usize, Refusal>
         ensures { TellsSize P.Performance W.Weight (records self.now) store.now k result }
     {
@@ -21,7 +23,9 @@ impl<P: Performance, W: Weight> Diagram<P, W> {
         Ok(self.table.nodes[k].size)
     }
 
-    // Term i of the row of node k, from 0.
+    /// Term i of the row of node k, counted from 0; the terms stand in rising order.
+    ///
+    /// Refused, in this order: 1 `ShortStore`, 5 `NoNode`, 13 `Stale`, 14 `NoTerm`.
     pub fn term(&self, store: &[Term<P, W>], k: usize, i: usize) -> Result<Term<P, W>, Refusal>
         ensures { TellsTerm P.Performance W.Weight (records self.now) store.now k i result }
     {
@@ -31,7 +35,9 @@ impl<P: Performance, W: Weight> Diagram<P, W> {
         Ok(row[i])
     }
 
-    // The weight of everything.
+    /// The weight of everything.
+    ///
+    /// Refused, in this order: 1 `ShortStore`, 5 `NoNode`, 13 `Stale`.
     pub fn total(&self, store: &[Term<P, W>], k: usize) -> Result<W, Refusal>
         ensures { TellsTotal P.Performance W.Weight (records self.now) store.now k result }
     {
@@ -39,9 +45,12 @@ impl<P: Performance, W: Weight> Diagram<P, W> {
         Ok(total(row_of(&self.table, store, k)))
     }
 
-    // The weight that meets the demand, and the weight of everything.
+    /// The weight of what meets the demand, and the weight of everything.
+    ///
+    /// Refused, in this order: 1 `ShortStore`, 5 `NoNode`, 13 `Stale`.
     pub fn availability(&self, store: &[Term<P, W>], k: usize, demand: P) -> Result<(W, W), Refusal>
-        ensures { TellsAvailability P.Performance W.Weight (records self.now) store.now k demand result }
+        ensures { TellsAvailability P.Performance W.Weight (records self.now) store.now k demand
+            result }
     {
         self.answers(store, k)?;
         Ok(availability(row_of(&self.table, store, k), demand))
@@ -49,7 +58,8 @@ impl<P: Performance, W: Weight> Diagram<P, W> {
 
     // Does node k answer?
     fn answers(&self, store: &[Term<P, W>], k: usize) -> Result<(), Refusal>
-        ensures { Asks P.Performance W.Weight (records self.now) store.now k result (result ≡ Ok tt) }
+        ensures { Asks P.Performance W.Weight (records self.now) store.now k
+            result (result ≡ Ok tt) }
     {
         Refusal::ShortStore.unless(store.len() >= STORE)?;
         Refusal::NoNode.unless(k < self.table.count)?;

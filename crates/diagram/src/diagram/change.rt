@@ -1,4 +1,4 @@
-// The calls that change a diagram's records: adding, joining, restating.
+//! The calls that change a diagram's records: adding, joining, restating.
 ghost use Rattle.std.specs.Prelude.{◌≢◌, ◌↔◌, IsTrue};
 ghost use Rattle.diagram.specs.declared.node.Form.TheVariants.{Part, Joined, Bridge};
 ghost use Rattle.diagram.specs.Shown.{records};
@@ -7,7 +7,7 @@ ghost use Rattle.diagram.specs.Makings.{Makes};
 ghost use Rattle.diagram.specs.Nodes.{EnoughStates};
 
 use super::Diagram;
-use crate::limits::{NODES, STORE, TERMS};
+use crate::limits::{ARMS, NODES, STORE, TERMS};
 use crate::making::Making;
 use crate::node::Form;
 use crate::refusal::Refusal;
@@ -18,9 +18,13 @@ use kinds::weight::Weight;
 use terms::term::{Term, Way};
 
 impl<P: Performance, W: Weight> Diagram<P, W> {
-    // Makes a part from states in any order, and answers its number.
+    /// Adds a part from states in any order, and answers its number.
+    ///
+    /// Refused, in this order: 1 `ShortStore`, 2 `NoNumberLeft`, 3 `WrongStates`; then nothing has
+    /// changed. Else the part's row stands in its places, and it is up to date.
     pub fn add(&mut self, store: &mut [Term<P, W>], states: &[Term<P, W>]) -> Result<usize, Refusal>
-        ensures { Added P.Performance W.Weight (records self.old) store.old states.now result (records self.new) store.new }
+        ensures { Added P.Performance W.Weight (records self.old) store.old states.now
+            result (records self.new) store.new }
     {
         Refusal::ShortStore.unless(store.len() >= STORE)?;
         Refusal::NoNumberLeft.unless(self.table.count < NODES)?;
@@ -31,33 +35,42 @@ impl<P: Performance, W: Weight> Diagram<P, W> {
         Ok(k)
     }
 
-    // Joins nodes in series or in parallel, in this order, and answers the number of the new node.
+    /// Joins nodes in series or in parallel, in this order, and answers the number of the new node.
+    ///
+    /// Refused, in this order: 1 `ShortStore`, 2 `NoNumberLeft`, 4 `WrongChildren`, 5 `NoNode`,
+    /// 6 `InUse`, 7 `Repeated`; then nothing has changed. Else the new node is stale.
     pub fn join(
         &mut self,
         store: &[Term<P, W>],
         way: Way,
         children: &[usize],
     ) -> Result<usize, Refusal>
-        ensures { Joins P.Performance W.Weight (records self.old) store.now (Joined way) children.now result (records self.new) }
+        ensures { Joins P.Performance W.Weight (records self.old) store.now
+            (Joined way) children.now result (records self.new) }
     {
         self.join_as(store, Form::Joined(way), children)
     }
 
-    // Joins the five arms a to e of a bridge, and answers the number of the new node.
-    pub fn join_bridge(&mut self, store: &[Term<P, W>], arms: [usize; 5]) -> Result<usize, Refusal>
-        ensures { Joins P.Performance W.Weight (records self.old) store.now Bridge arms result (records self.new) }
+    /// Joins the arms a to e of a bridge, and answers the number of the new node.
+    ///
+    /// Refused as in `join`, but never by 4 `WrongChildren`.
+    pub fn join_bridge(
+        &mut self,
+        store: &[Term<P, W>],
+        arms: [usize; ARMS],
+    ) -> Result<usize, Refusal>
+        ensures { Joins P.Performance W.Weight (records self.old) store.now Bridge arms
+            result (records self.new) }
     {
         self.join_as(store, Form::Bridge, &arms)
     }
 
-    /// Makes a node as it is said, and answers its number: what `add`, `join` or `join_bridge`
-    /// answers, with their refusals.
-    pub fn make(
-        &mut self,
-        store: &mut [Term<P, W>],
-        making: Making<P, W>,
-    ) -> Result<usize, Refusal>
-        ensures { Makes P.Performance W.Weight making.entry self.old store.old result self.new store.new }
+    /// Makes a node as it is said, and answers its number.
+    ///
+    /// Refused as in `add`, `join` or `join_bridge`.
+    pub fn make(&mut self, store: &mut [Term<P, W>], making: Making<P, W>) -> Result<usize, Refusal>
+        ensures { Makes P.Performance W.Weight making.entry self.old store.old
+            result self.new store.new }
     {
         match making {
             Making::Added(states) => self.add(store, states),
@@ -69,6 +82,7 @@ impl<P: Performance, W: Weight> Diagram<P, W> {
         }
     }
 
+    // Joins nodes, in whatever form.
     fn join_as(
         &mut self,
         store: &[Term<P, W>],
@@ -76,7 +90,8 @@ impl<P: Performance, W: Weight> Diagram<P, W> {
         children: &[usize],
     ) -> Result<usize, Refusal>
         requires { form ≢ Part }
-        ensures { Joins P.Performance W.Weight (records self.old) store.now form children.now result (records self.new) }
+        ensures { Joins P.Performance W.Weight (records self.old) store.now form children.now
+            result (records self.new) }
     {
         Refusal::ShortStore.unless(store.len() >= STORE)?;
         Refusal::NoNumberLeft.unless(self.table.count < NODES)?;
@@ -89,14 +104,18 @@ impl<P: Performance, W: Weight> Diagram<P, W> {
         Ok(k)
     }
 
-    // Gives a part new states, and answers how many terms its row has. What the part is beneath becomes stale.
+    /// Gives part k new states, and answers how many terms its row has.
+    ///
+    /// Refused, in this order: 1 `ShortStore`, 5 `NoNode`, 8 `NotPart`, 3 `WrongStates`; then
+    /// nothing has changed. Else all that the part is beneath is stale.
     pub fn restate(
         &mut self,
         store: &mut [Term<P, W>],
         k: usize,
         states: &[Term<P, W>],
     ) -> Result<usize, Refusal>
-        ensures { Restated P.Performance W.Weight (records self.old) store.old k states.now result (records self.new) store.new }
+        ensures { Restated P.Performance W.Weight (records self.old) store.old k states.now
+            result (records self.new) store.new }
     {
         Refusal::ShortStore.unless(store.len() >= STORE)?;
         Refusal::NoNode.unless(k < self.table.count)?;

@@ -1,5 +1,5 @@
 use Rattle.std.proofs.lemmas.Bool.{false≢true}
-use Rattle.diagram.proofs.Looping.{stands_twice, apart_more}
+use Rattle.diagram.proofs.LoopOverNodes.{stands_twice, apart_more}
 use Rattle.diagram.proofs.table.are_distinct.Goals as goal
 
 pub returns-then-contains : goal.returns-then-contains

@@ -1,6 +1,7 @@
 use Rattle.std.proofs.Common.{◌+◌, ◌-◌, ◌*◌, length, take, drop, ap, ◌∙◌, arith}
 use Rattle.std.proofs.lemmas.List.{length-drop, length-take, take_all}
-use Rattle.diagram.proofs.Places.{stands, others_kept}
+use Rattle.diagram.specs.declared.limits.TheConstants.{TERMS}
+use Rattle.diagram.proofs.StoreWrites.{stands, others_kept}
 use Rattle.diagram.proofs.work.copy_row.Goals as goal
 
 pub returns-clause-stands : goal.returns-clause-stands
@@ -10,4 +11,4 @@ pub returns-clause-others : goal.returns-clause-others
 returns-clause-others g c = others_kept c.args.k _ c.args.rows.now c.copy_from_slice.new.self (omega arith) (omega arith) (omega arith)
 
 pub copy_from_slice-requires : goal.copy_from_slice-requires
-copy_from_slice-requires g c = omega (arith, length-take (64 * c.args.k + length c.args.row.now - 64 * c.args.k) (drop (64 * c.args.k) c.args.rows.now), length-drop (64 * c.args.k) c.args.rows.now)
+copy_from_slice-requires g c = omega (arith, length-take (TERMS * c.args.k + length c.args.row.now - TERMS * c.args.k) (drop (TERMS * c.args.k) c.args.rows.now), length-drop (TERMS * c.args.k) c.args.rows.now)

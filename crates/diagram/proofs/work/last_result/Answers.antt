@@ -1,50 +1,27 @@
-use Rattle.std.proofs.Common.{arith}
-use Rattle.diagram.specs.Records.{form_at, children_at}
-use Rattle.diagram.specs.Store.{row_at}
-use Rattle.diagram.proofs.Children.{form_is, children_in_store, first_and_rest}
-use Rattle.diagram.proofs.Running.{joined_result, bridged_result}
+use Rattle.std.proofs.Common.{◌≡◌, length, arith}
+use Rattle.kinds.proofs.Lawful.{lawful_kind, lawful_weight}
+use Rattle.diagram.proofs.Children.{is_bridge, children_in_store, bridges_all}
+use Rattle.diagram.proofs.Joining.{bridged}
 use Rattle.diagram.proofs.work.last_result.Goals as goal
 
-pub run-requires-clause-nodes : goal.run-requires-clause-nodes
-run-requires-clause-nodes g c = first_and_rest c.args.table.now c.args.k c.requires.sound c.requires.node _ c.children_of.ensures (omega arith)
-
-pub row_of-requires-clause-node : goal.row_of-requires-clause-node
-row_of-requires-clause-node g c = (children_in_store c.args.table.now c.args.k c.requires.sound c.requires.node _ c.children_of.ensures 0 0 (omega arith)).0
-
-pub row_of-requires-clause-sized : goal.row_of-requires-clause-sized
-row_of-requires-clause-sized g c = (children_in_store c.args.table.now c.args.k c.requires.sound c.requires.node _ c.children_of.ensures 0 0 (omega arith)).1
-
-pub row_of-requires-in-Bridge-len5-clause-node : goal.row_of-requires-in-Bridge-len5-clause-node
-row_of-requires-in-Bridge-len5-clause-node g c = (children_in_store c.args.table.now c.args.k c.requires.sound c.requires.node _ c.children_of.ensures 1 0 (omega arith)).0
-
-pub row_of-requires-in-Bridge-len5-clause-sized : goal.row_of-requires-in-Bridge-len5-clause-sized
-row_of-requires-in-Bridge-len5-clause-sized g c = (children_in_store c.args.table.now c.args.k c.requires.sound c.requires.node _ c.children_of.ensures 1 0 (omega arith)).1
-
-pub row_of-requires-in-Bridge-len5-2-clause-node : goal.row_of-requires-in-Bridge-len5-2-clause-node
-row_of-requires-in-Bridge-len5-2-clause-node g c = (children_in_store c.args.table.now c.args.k c.requires.sound c.requires.node _ c.children_of.ensures 2 0 (omega arith)).0
-
-pub row_of-requires-in-Bridge-len5-2-clause-sized : goal.row_of-requires-in-Bridge-len5-2-clause-sized
-row_of-requires-in-Bridge-len5-2-clause-sized g c = (children_in_store c.args.table.now c.args.k c.requires.sound c.requires.node _ c.children_of.ensures 2 0 (omega arith)).1
-
-pub row_of-requires-in-Bridge-len5-3-clause-node : goal.row_of-requires-in-Bridge-len5-3-clause-node
-row_of-requires-in-Bridge-len5-3-clause-node g c = (children_in_store c.args.table.now c.args.k c.requires.sound c.requires.node _ c.children_of.ensures 3 0 (omega arith)).0
-
-pub row_of-requires-in-Bridge-len5-3-clause-sized : goal.row_of-requires-in-Bridge-len5-3-clause-sized
-row_of-requires-in-Bridge-len5-3-clause-sized g c = (children_in_store c.args.table.now c.args.k c.requires.sound c.requires.node _ c.children_of.ensures 3 0 (omega arith)).1
-
-pub row_of-requires-in-Bridge-len5-4-clause-node : goal.row_of-requires-in-Bridge-len5-4-clause-node
-row_of-requires-in-Bridge-len5-4-clause-node g c = (children_in_store c.args.table.now c.args.k c.requires.sound c.requires.node _ c.children_of.ensures 4 0 (omega arith)).0
-
-pub row_of-requires-in-Bridge-len5-4-clause-sized : goal.row_of-requires-in-Bridge-len5-4-clause-sized
-row_of-requires-in-Bridge-len5-4-clause-sized g c = (children_in_store c.args.table.now c.args.k c.requires.sound c.requires.node _ c.children_of.ensures 4 0 (omega arith)).1
-
-pub returns-in-Joined-len1-up : goal.returns-in-Joined-len1-up
-returns-in-Joined-len1-up g c =
+pub bounds-arms-4 : goal.bounds-arms-4
+bounds-arms-4 g c =
     let few = c.requires.sound.few in
-    joined_result g.P.Performance g.W.Weight (row_at c.args.table.now c.args.rows.now) (form_at c.args.table.now c.args.k) (children_at c.args.table.now c.args.k) _ c.children_of.ensures c.run.new.room c.run.result c.in-Joined-len1-up.way (form_is c.args.table.now c.args.k (omega arith) _ _ c.in-Joined-len1-up.is-0) (omega arith) c.run.ensures
+    let bridge = is_bridge c.args.table.now c.args.k (omega arith) _ c.requires.joined c.in_default.not-Joined in
+    let long : length c.children_of-arms.result.now ≡ 5 = bridges_all c.args.table.now c.args.k c.requires.sound c.requires.node _ c.children_of-arms.ensures bridge in
+    omega (arith, long)
 
-pub returns-in-Bridge-len5 : goal.returns-in-Bridge-len5
-returns-in-Bridge-len5 g c =
+pub row_of-requires-5 : goal.row_of-requires-5
+row_of-requires-5 g c =
     let few = c.requires.sound.few in
-    bridged_result g.P.Performance g.W.Weight (row_at c.args.table.now c.args.rows.now) (form_at c.args.table.now c.args.k) (children_at c.args.table.now c.args.k) _ c.children_of.ensures c.bridge.new.room c.bridge.result _ _ _ _ _ (form_is c.args.table.now c.args.k (omega arith) _ _ c.in-Bridge-len5.is-0) (omega arith)
-    c.row_of.ensures c.row_of-in-Bridge-len5.ensures c.row_of-in-Bridge-len5-2.ensures c.row_of-in-Bridge-len5-3.ensures c.row_of-in-Bridge-len5-4.ensures (cc) c.bridge.ensures
+    let bridge = is_bridge c.args.table.now c.args.k (omega arith) _ c.requires.joined c.in_default.not-Joined in
+    let long : length c.children_of-arms.result.now ≡ 5 = bridges_all c.args.table.now c.args.k c.requires.sound c.requires.node _ c.children_of-arms.ensures bridge in
+    record { node = children_in_store c.args.table.now c.args.k c.requires.sound c.requires.node _ c.children_of-arms.ensures 4 0 (omega (arith, long)); rows = c.requires.rows }
+
+pub returns : goal.returns
+returns g c =
+    let few = c.requires.sound.few in
+    let bridge = is_bridge c.args.table.now c.args.k (omega arith) _ c.requires.joined c.in_default.not-Joined in
+    let long = bridges_all c.args.table.now c.args.k c.requires.sound c.requires.node _ c.children_of-arms.ensures bridge in
+    bridged (lawful_kind g.met.P.Performance) (lawful_weight g.met.W.Weight) c.args.table.now c.args.rows.now c.args.k c.requires.sound c.requires.node c.bridge.new.room (cc) _ c.children_of-arms.ensures bridge long _ _ _ _ _
+    c.row_of.ensures c.row_of-2.ensures c.row_of-3.ensures c.row_of-4.ensures c.row_of-5.ensures _ c.bridge.ensures

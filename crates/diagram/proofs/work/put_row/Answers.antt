@@ -2,7 +2,7 @@ use Rattle.std.proofs.Common.{take, sym, ap, arith}
 use Rattle.std.proofs.lemmas.List.{length-take-le}
 use Rattle.kinds.proofs.Lawful.{lawful_kind, lawful_weight}
 use Rattle.diagram.proofs.Lengths.{has_room}
-use Rattle.diagram.proofs.Places.{put}
+use Rattle.diagram.proofs.StoreWrites.{put}
 use Rattle.diagram.proofs.work.put_row.Goals as goal
 
 pub unwrap-requires : goal.unwrap-requires

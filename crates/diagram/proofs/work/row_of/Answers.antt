@@ -1,5 +1,5 @@
-use Rattle.diagram.proofs.Places.{row_cut}
+use Rattle.diagram.proofs.StoreWrites.{row_cut}
 use Rattle.diagram.proofs.work.row_of.Goals as goal
 
 pub returns : goal.returns
-returns g c = row_cut c.args.table.now c.args.rows.now c.args.c c.requires.sized
+returns g c = row_cut c.args.table.now c.args.rows.now c.args.c c.requires.node.1

@@ -1,4 +1,3 @@
-use Rattle.kinds.proofs.Lawful.{lawful_kind, lawful_weight}
 use Rattle.diagram.proofs.Asking.{yes, no, at_least, below, not_at_least, not_below, so, not_so, refused}
 use Rattle.diagram.proofs.Collected.{too_long, small, collected}
 use Rattle.diagram.proofs.diagram.Diagram.collect.Goals as goal
@@ -27,13 +26,13 @@ pub returns-in_err-size : goal.returns-in_err-size
 returns-in_err-size g c =
     yes (at_least c.in_ok-unless.ensures.yes) (yes (below c.in_ok-unless-2.ensures.yes) (yes (so c.is_joined.ensures c.in_ok-unless-3.ensures.yes)
     (yes (so c.children_are_current.ensures c.in_ok-unless-4.ensures.yes)
-    (yes (so c.arms_fit.ensures c.in_ok-unless-5.ensures.yes) (too_long g.P.Performance g.W.Weight (lawful_kind g.met.P.Performance) (lawful_weight g.met.W.Weight) c.args.self.now.table c.args.k c.args.store.now c.work_out.new.store c.work_out.ensures c.in_err-size.ensures.ok_part c.from_residual-in_err-size.ensures.1 c.in_err-size.ensures.value)))))
+    (yes (so c.arms_fit.ensures c.in_ok-unless-5.ensures.yes) (too_long g.P.Performance g.W.Weight c.args.self.now.table c.args.k c.args.store.now c.work_out.new.store c.work_out.ensures c.in_err-size.ensures.ok_part c.from_residual-in_err-size.ensures.1 c.in_err-size.ensures.value)))))
 
 pub collect-requires-clause-current : goal.collect-requires-clause-current
 collect-requires-clause-current g c = so c.children_are_current.ensures c.in_ok-unless-4.ensures.yes
 
 pub collect-requires-clause-fits : goal.collect-requires-clause-fits
-collect-requires-clause-fits g c = small g.P.Performance g.W.Weight (lawful_kind g.met.P.Performance) (lawful_weight g.met.W.Weight) c.args.self.now.table c.args.k c.args.store.now c.work_out.new.store c.work_out.ensures c.in_ok-size.ensures.ok_part
+collect-requires-clause-fits g c = small g.P.Performance g.W.Weight c.args.self.now.table c.args.k c.args.store.now c.work_out.new.store c.work_out.ensures c.in_ok-size.ensures.ok_part
 
 pub children_are_current-requires-clause-node : goal.children_are_current-requires-clause-node
 children_are_current-requires-clause-node g c = below c.in_ok-unless-2.ensures.yes
@@ -60,4 +59,4 @@ pub returns : goal.returns
 returns g c =
     yes (at_least c.in_ok-unless.ensures.yes) (yes (below c.in_ok-unless-2.ensures.yes) (yes (so c.is_joined.ensures c.in_ok-unless-3.ensures.yes)
     (yes (so c.children_are_current.ensures c.in_ok-unless-4.ensures.yes)
-    (yes (so c.arms_fit.ensures c.in_ok-unless-5.ensures.yes) (collected g.P.Performance g.W.Weight (lawful_kind g.met.P.Performance) (lawful_weight g.met.W.Weight) c.args.self.now.table c.args.k c.args.store.now c.work_out.new.store c.work_out.ensures c.in_ok-size.ensures.ok_part c.collect.ensures.collected)))))
+    (yes (so c.arms_fit.ensures c.in_ok-unless-5.ensures.yes) (collected g.P.Performance g.W.Weight c.args.self.now.table c.args.k c.args.store.now c.work_out.new.store c.work_out.ensures c.in_ok-size.ensures.ok_part c.collect.ensures.collected)))))

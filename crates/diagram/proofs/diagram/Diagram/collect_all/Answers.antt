@@ -3,7 +3,8 @@ use Rattle.std.proofs.lemmas.Bool.{true≢false}
 use Rattle.kinds.proofs.Lawful.{lawful_kind, lawful_weight}
 use Rattle.diagram.specs.InTurn.{CollectedTo, none_yet, past_part, one_more}
 use Rattle.diagram.proofs.Facts.{part_unless}
-use Rattle.diagram.proofs.InTurn.{in_runs}
+use Rattle.diagram.proofs.InTurn.{current_to, in_runs}
+use Rattle.diagram.proofs.RunGoesOn.{yes}
 use Rattle.diagram.proofs.diagram.Diagram.collect_all.Goals as goal
 use Rattle.diagram.proofs.diagram.Diagram.collect_all.Goals.{then-is_joined+in_default, else-is_joined}
 
@@ -11,7 +12,7 @@ pub loop-k-init : goal.loop-k-init
 loop-k-init g c = none_yet
 
 pub returns-in-Err-clause-in_turn : goal.returns-in-Err-clause-in_turn
-returns-in-Err-clause-in_turn g c =
+returns-in-Err-clause-in_turn g c = yes (omega (arith, c.if-store-lt-STORE.false))
     (c.loop-k.self, c.loop-k.store, c.loop-k.invariant, c.loop-k-test.true, c.is_joined.ensures.0 c.if-is_joined.true, rw c.in-Err.is at c.collect.ensures)
 
 pub returns-in-Err-clause-in_runs : goal.returns-in-Err-clause-in_runs
@@ -26,7 +27,9 @@ loop-k-preserved g c = elim c.if-is_joined.branch [
 pub returns-clause-in_turn : goal.returns-clause-in_turn
 returns-clause-in_turn g c =
     let all : c.loop-k.k ≡ c.args.self.now.table.count = omega (arith, c.loop-k-test.false, c.loop-k.auto.k-end) in
-    subst (λ n. CollectedTo g.P.Performance g.W.Weight c.args.self.now c.args.store.now n c.loop-k.self c.loop-k.store) all c.loop-k.invariant
+    let upto : CollectedTo g.P.Performance g.W.Weight c.args.self.now c.args.store.now c.args.self.now.table.count c.loop-k.self c.loop-k.store = subst (λ n. CollectedTo g.P.Performance g.W.Weight c.args.self.now c.args.store.now n c.loop-k.self c.loop-k.store) all c.loop-k.invariant in
+    let current = current_to g.P.Performance g.W.Weight c.args.self.now c.args.store.now (omega arith) upto in
+    yes (omega (arith, c.if-store-lt-STORE.false)) (upto, λ k l. current.1 k (omega (arith, l, current.0)))
 
 pub returns-clause-in_runs : goal.returns-clause-in_runs
 returns-clause-in_runs g c = in_runs _ _ (lawful_kind g.met.P.Performance) (lawful_weight g.met.W.Weight) _ _ _ _ (Ok _) (returns-clause-in_turn g c)

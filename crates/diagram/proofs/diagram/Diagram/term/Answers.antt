@@ -1,16 +1,14 @@
 use Rattle.std.proofs.Common.{get_or, refl, sym, ap, ◌∙◌, arith}
 use Rattle.diagram.proofs.Asking.{yes, no, below, not_below, err_is, answered, goes_on, passed_on}
-use Rattle.diagram.proofs.Places.{row_as_long}
+use Rattle.diagram.proofs.StoreWrites.{row_as_long}
+use Rattle.diagram.proofs.Children.{in_store}
 use Rattle.diagram.proofs.diagram.Diagram.term.Goals as goal
 
 pub returns-in_err-answers : goal.returns-in_err-answers
 returns-in_err-answers g c = passed_on c.answers.ensures c.in_err-answers.was (err_is c.from_residual.ensures.1 refl)
 
 pub row_of-row-requires-clause-node : goal.row_of-row-requires-clause-node
-row_of-row-requires-clause-node g c = omega (arith, (answered c.answers.ensures c.in_ok-answers.was).1, c.args.self.now.sound.few)
-
-pub row_of-row-requires-clause-sized : goal.row_of-row-requires-clause-sized
-row_of-row-requires-clause-sized g c = (c.args.self.now.sound.at c.args.k (answered c.answers.ensures c.in_ok-answers.was).1).own.sized
+row_of-row-requires-clause-node g c = in_store c.args.self.now.table c.args.self.now.sound c.args.k (answered c.answers.ensures c.in_ok-answers.was).1
 
 pub returns-in_err-unless : goal.returns-in_err-unless
 returns-in_err-unless g c =

@@ -1,6 +1,6 @@
 use Rattle.std.proofs.Common.{rules}
 use Rattle.std.proofs.lemmas.List.Elements.{All-set}
-use Rattle.diagram.proofs.Keeping.{added_keeps}
+use Rattle.diagram.proofs.RecordsSound.{added_keeps}
 use Rattle.diagram.proofs.table.Table.add_part.Goals as goal
 
 pub returns-clause-sound : goal.returns-clause-sound

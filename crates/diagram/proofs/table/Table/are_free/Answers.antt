@@ -1,5 +1,5 @@
 use Rattle.diagram.specs.Calls.{Free}
-use Rattle.diagram.proofs.Looping.{each_more}
+use Rattle.diagram.proofs.LoopOverNodes.{each_more}
 use Rattle.diagram.proofs.table.Table.are_free.Goals as goal
 
 pub loop-c-preserved : goal.loop-c-preserved

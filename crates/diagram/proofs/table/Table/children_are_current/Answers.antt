@@ -1,7 +1,7 @@
 use Rattle.std.proofs.Common.{◌≡◌}
 use Rattle.diagram.specs.declared.node.Status.TheVariants.{UpToDate}
 use Rattle.diagram.specs.Records.{status_at}
-use Rattle.diagram.proofs.Looping.{each_more}
+use Rattle.diagram.proofs.LoopOverNodes.{each_more}
 use Rattle.diagram.proofs.table.Table.children_are_current.Goals as goal
 
 pub loop-c-preserved : goal.loop-c-preserved

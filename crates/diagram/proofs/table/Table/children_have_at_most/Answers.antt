@@ -1,6 +1,6 @@
 use Rattle.std.proofs.Common.{◌≤◌}
 use Rattle.diagram.specs.Records.{size_at}
-use Rattle.diagram.proofs.Looping.{each_more}
+use Rattle.diagram.proofs.LoopOverNodes.{each_more}
 use Rattle.diagram.proofs.table.Table.children_have_at_most.Goals as goal
 
 pub loop-c-preserved : goal.loop-c-preserved

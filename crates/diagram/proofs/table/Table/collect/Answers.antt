@@ -1,7 +1,7 @@
 use Rattle.std.proofs.Common.{arith}
 use Rattle.diagram.specs.Changes.{NodeCollected}
-use Rattle.diagram.proofs.Keeping.{collected_keeps}
-use Rattle.diagram.proofs.Written.{collected_written}
+use Rattle.diagram.proofs.RecordsSound.{collected_keeps}
+use Rattle.diagram.proofs.TableWrites.{collected_written}
 use Rattle.diagram.proofs.table.Table.collect.Goals as goal
 
 written : (c : goal.After-put_collected) → NodeCollected c.args.self.now c.put_collected.new.self c.args.k c.args.size

@@ -1,7 +1,8 @@
 use Rattle.std.proofs.Common.{◌≤◌, arith}
 use Rattle.std.proofs.lemmas.List.Elements.{All-set}
-use Rattle.diagram.proofs.Keeping.{joined_keeps, takes_few}
-use Rattle.diagram.proofs.Written.{joined_written}
+use Rattle.diagram.specs.declared.limits.TheConstants.{CHILDREN}
+use Rattle.diagram.proofs.RecordsSound.{joined_keeps, takes_few}
+use Rattle.diagram.proofs.TableWrites.{joined_written}
 use Rattle.diagram.proofs.table.Table.join.Goals as goal
 
 pub returns-clause-joined : goal.returns-clause-joined
@@ -9,4 +10,4 @@ returns-clause-joined c = rw c.joined.ensures (joined_written c.args.self.now c.
 
 pub returns-clause-sound : goal.returns-clause-sound
 returns-clause-sound c = joined_keeps c.requires.sound c.requires.number_left c.requires.takes c.requires.nodes c.requires.free c.requires.once (returns-clause-joined c)
-    (rw c.set_user.ensures.rest.arities (All-set (λ n. n ≤ 8) c.args.self.now.arities c.args.self.now.count _ (takes_few c.args.form _ c.requires.takes.0) c.requires.sound.short))
+    (rw c.set_user.ensures.rest.arities (All-set (λ n. n ≤ CHILDREN) c.args.self.now.arities c.args.self.now.count _ (takes_few c.args.form _ c.requires.takes.0) c.requires.sound.short))

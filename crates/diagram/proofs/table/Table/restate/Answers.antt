@@ -1,6 +1,6 @@
 use Rattle.std.proofs.Common.{arith}
-use Rattle.diagram.proofs.Keeping.{restated_keeps}
-use Rattle.diagram.proofs.Written.{restated_written}
+use Rattle.diagram.proofs.RecordsSound.{restated_keeps}
+use Rattle.diagram.proofs.TableWrites.{restated_written}
 use Rattle.diagram.proofs.table.Table.restate.Goals as goal
 
 pub returns-clause-restated : goal.returns-clause-restated

@@ -9,6 +9,7 @@ use Rattle.terms.specs.declared.term.Term.{Term}
 use Rattle.terms.specs.Rows.{RowOf}
 use Rattle.terms.specs.Drawings.{Drawing, part}
 use Rattle.terms.specs.Enumeration.{but, enumeration}
+use Rattle.diagram.specs.declared.limits.TheConstants.{NODES, TERMS, ROWS}
 use Rattle.diagram.specs.declared.node.Form.TheVariants.{Part, Joined, Bridge}
 use Rattle.diagram.specs.declared.node.Status.TheVariants.{UpToDate}
 use Rattle.diagram.specs.declared.table.Table.{Table}
@@ -45,16 +46,16 @@ but_at n x f = ap (λ b. cond b x (f n)) (eq-eqb n n refl)
 pub but_else : {S : Type 0} (n : ℕ) (x : S) (f : ℕ → S) (m : ℕ) → m ≢ n → but n x f m ≡ f m
 but_else n x f m apart = ap (λ b. cond b x (f m)) (ne_eqb n m (λ e. apart (sym e)))
 
--- the first 3,072 terms are the places of the nodes
-pub same_places : {T : Type 0} (s u : List T) → take 3072 u ≡ take 3072 s → (j : ℕ) → j < 48 → places_of j u ≡ places_of j s
-same_places s u e j h = cut u ∙ ap (λ z. drop (64 * j) (take (64 * j + 64) z)) e ∙ sym (cut s)
+-- the first `ROWS` terms are the places of the nodes
+pub same_places : {T : Type 0} (s u : List T) → take ROWS u ≡ take ROWS s → (j : ℕ) → j < NODES → places_of j u ≡ places_of j s
+same_places s u e j h = cut u ∙ ap (λ z. drop (TERMS * j) (take (TERMS * j + TERMS) z)) e ∙ sym (cut s)
   where
-    cut : {T : Type 0} (x : List T) → places_of j x ≡ drop (64 * j) (take (64 * j + 64) (take 3072 x))
-    cut x = between_is x (64 * j) (64 * j + 64) ∙ ap (drop (64 * j)) (sym (take-take (64 * j + 64) 3072 x (omega (arith, h))))
+    cut : {T : Type 0} (x : List T) → places_of j x ≡ drop (TERMS * j) (take (TERMS * j + TERMS) (take ROWS x))
+    cut x = between_is x (TERMS * j) (TERMS * j + TERMS) ∙ ap (drop (TERMS * j)) (sym (take-take (TERMS * j + TERMS) ROWS x (omega (arith, h))))
 
 module _ {P W : Type 0} {kind : Performance.Ghosts P} {weights : Weight.Ghosts W} {n : ℕ} {making : ℕ → Option (Making P W)} {drawing : ℕ → Drawing} {states : ℕ → List (Term P W)} {since : ℕ → Type 0} {t : Table} (sound : Sound t) where
   -- nothing but places of no node is written
-  pub holds_there : (s s' : List (Term P W)) → ((j : ℕ) → j < 48 → places_of j s' ≡ places_of j s) → Holds kind weights n making drawing states since t s → Holds kind weights n making drawing states since t s'
+  pub holds_there : (s s' : List (Term P W)) → ((j : ℕ) → j < NODES → places_of j s' ≡ places_of j s) → Holds kind weights n making drawing states since t s → Holds kind weights n making drawing states since t s'
   holds_there s s' same h = record {
     count = h.count;
     made_so = h.made_so;

@@ -1,4 +1,4 @@
-// Making a diagram.
+//! Making a diagram.
 ghost use Rattle.diagram.specs.Calls.{Made};
 ghost use Rattle.diagram.specs.Shown.{records};
 ghost use Rattle.diagram.specs.Runs.{AnswersRight, AnswersAlike};
@@ -13,7 +13,9 @@ use std::marker::PhantomData;
 use terms::term::Term;
 
 impl<P: Performance, W: Weight> Diagram<P, W> {
-    // A diagram without nodes.
+    /// A diagram without nodes.
+    ///
+    /// Refused: 1 `ShortStore`. Two clauses are the promise over all runs of calls.
     pub fn new(store: &[Term<P, W>]) -> Result<Diagram<P, W>, Refusal>
         ensures made { Made records store.now result }
         ensures answers_right { AnswersRight P.Performance W.Weight }

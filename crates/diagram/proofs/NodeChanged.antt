@@ -6,8 +6,7 @@ use Rattle.kinds.specs.declared.weight.Weight
 use Rattle.kinds.proofs.Lawful.{Weighing}
 use Rattle.terms.specs.declared.term.Term.{Term}
 use Rattle.terms.specs.Rows.{RowOf}
-use Rattle.terms.specs.Drawings.{Drawing}
-use Rattle.terms.specs.Drawings.{Beneath as StandsIn}
+use Rattle.terms.specs.Drawings.{Drawing, Beneath as StandsIn}
 use Rattle.terms.specs.Enumeration.{but, enumeration}
 use Rattle.terms.proofs.Children.{of_part}
 use Rattle.terms.proofs.Beneath.{only_parts_beneath}
@@ -19,12 +18,12 @@ use Rattle.diagram.specs.Records.{Sound, form_at, status_at, size_at, children_a
 use Rattle.diagram.specs.Changes.{PartRestated, NodeCollected}
 use Rattle.diagram.specs.Store.{places_of, row_at, RowPut}
 use Rattle.diagram.specs.Histories.{Making}
-use Rattle.diagram.proofs.Keeping.{not_both, current_unless}
+use Rattle.diagram.proofs.RecordsSound.{not_both, current_unless}
 use Rattle.diagram.proofs.Climbing.{beneath_from_above, above_from_beneath}
 use Rattle.diagram.proofs.Drawn.{Drawn, drawn_form}
-use Rattle.diagram.proofs.Placed.{part_or_not, beneath_within, within_beneath, part_drawn}
-use Rattle.diagram.proofs.Holding.{Matches, Holds, but_at, but_else}
-use Rattle.diagram.proofs.Growing.{matches_same}
+use Rattle.diagram.proofs.PartsBelow.{part_or_not, beneath_within, within_beneath, part_drawn}
+use Rattle.diagram.proofs.HistoryFits.{Matches, Holds, but_at, but_else}
+use Rattle.diagram.proofs.NodeMade.{matches_same}
 
 module _ {P W : Type 0} (kind : Performance.Ghosts P) (weights : Weight.Ghosts W) (n : ℕ) (making : ℕ → Option (Making P W)) (drawing : ℕ → Drawing) (states : ℕ → List (Term P W)) (since : ℕ → Type 0) (t t' : Table) (s s' : List (Term P W)) (sound : Sound t) (sound' : Sound t') (h : Holds kind weights n making drawing states since t s) where
   module _ (number : t'.count ≡ t.count) (forms : (j : ℕ) → j < t.count → form_at t' j ≡ form_at t j) (children : (j : ℕ) → j < t.count → children_at t' j ≡ children_at t j) where

@@ -1,16 +1,16 @@
 -- One call more: its answer is right, and the records and the store are as the longer history has them.
-use Rattle.std.proofs.Common.{◌≡◌, ◌≢◌, ◌⊎◌, ◌↔◌, ℕ, ◌+◌, ◌<◌, ◌≤◌, List, [], ◌∷◌, length, map, All, AllPairs, Contains, Option, Some, None, Result, Ok, Err, sym, ◌∙◌, ap, refl, subst, inl, inr, arith}
+use Rattle.std.proofs.Common.{◌≡◌, ◌≢◌, ◌⊎◌, ◌↔◌, ℕ, ◌+◌, ◌<◌, ◌≤◌, List, [], ◌∷◌, length, All, AllPairs, Contains, Option, Some, None, Result, Ok, Err, sym, ◌∙◌, ap, refl, subst, inl, inr, arith}
 use Rattle.std.proofs.lemmas.Bool.{cases_lt, true≢false}
-use Rattle.std.proofs.lemmas.List.Elements.{All-contains}
+use Rattle.std.proofs.lemmas.List.Elements.{All-contains, All-contains_itself, All-weaker}
 use Rattle.kinds.specs.declared.performance.Performance
 use Rattle.kinds.specs.declared.weight.Weight
 use Rattle.kinds.proofs.Lawful.{Kind, Weighing}
 use Rattle.terms.specs.declared.term.Term.{Term}
 use Rattle.terms.specs.declared.term.Way.{Way}
-use Rattle.terms.specs.Rows.{RowOf}
+use Rattle.terms.specs.Rows.{SameDistribution, RowOf}
 use Rattle.terms.specs.Drawings.{part, Beneath, NoPartTwice}
 use Rattle.terms.specs.Enumeration.{but, enumeration}
-use Rattle.terms.specs.Steps.{RunningResult}
+use Rattle.diagram.specs.declared.limits.TheConstants.{NODES, STORE}
 use Rattle.diagram.specs.declared.refusal.Refusal.{Refusal}
 use Rattle.diagram.specs.declared.refusal.Refusal.TheVariants.{NoNumberLeft, WrongStates, WrongChildren, NoNode, InUse, Repeated, NotPart, NotJoined, StaleChild, LongArm, LongResult}
 use Rattle.diagram.specs.declared.node.Form.{Form}
@@ -22,22 +22,20 @@ use Rattle.diagram.specs.Refusals.{Asked}
 use Rattle.diagram.specs.Records.{Sound, form_at, status_at, size_at, children_at}
 use Rattle.diagram.specs.Changes.{PartAdded, NodeJoined, PartRestated, NodeCollected}
 use Rattle.diagram.specs.Store.{places_of, row_at, RowPut}
-use Rattle.diagram.specs.Results.{RunningResults}
+use Rattle.diagram.specs.Results.{joining_of, RowOfDrawing}
 use Rattle.diagram.specs.Calls.{Asks, Free, Refused, TooLong, Added, Joins, Restated, Collected}
 use Rattle.diagram.specs.Histories.{Call, adding, joining, bridging, restating, collecting, asking, Question, IsPart, Answer, number, Reply, Entry, History, Making, joined_from, bridged_from, making_by, restating_by, collecting_by, makes, restates, collects, drawn_by, made, making_of, Unused, drawing_of, states_of, CollectedSince, noted_making, noted_drawing, noted_states, changed_states, with_one}
-use Rattle.diagram.specs.RightAnswers.{RightAnswer, RowOfNode, ResultsShort}
+use Rattle.diagram.specs.RightAnswers.{RightAnswer, RowOfNode}
 use Rattle.diagram.specs.RightAnswers as RA
-use Rattle.diagram.specs.Runs.{told}
+use Rattle.diagram.specs.Runs.{as_reply}
 use Rattle.diagram.proofs.Facts.{is_part, some_same}
 use Rattle.diagram.proofs.Collected.{none_or_some}
-use Rattle.diagram.proofs.Since.{contains_cons, collecting_in, since_now, since_kept, since_split}
-use Rattle.diagram.proofs.Holding.{Holds, Matches, holds_there, but_else}
-use Rattle.diagram.proofs.Growing.{holds_added, holds_joined}
-use Rattle.diagram.proofs.Moving.{holds_restated, holds_collected}
-use Rattle.diagram.proofs.Drawn.{drawn_form}
-use Rattle.diagram.proofs.Resulted.{last_of, none_of}
-use Rattle.diagram.proofs.Resulting.{last_row, last_short, last_long}
-use Rattle.diagram.proofs.Placed.{none_twice}
+use Rattle.diagram.proofs.CollectedSince.{contains_cons, collecting_in, since_now, since_kept, since_split}
+use Rattle.diagram.proofs.HistoryFits.{Holds, Matches, holds_there, but_else}
+use Rattle.diagram.proofs.NodeMade.{holds_added, holds_joined}
+use Rattle.diagram.proofs.NodeChanged.{holds_restated, holds_collected}
+use Rattle.diagram.proofs.Results.{SameResults, joining_same}
+use Rattle.diagram.proofs.PartsBelow.{none_twice}
 use Rattle.diagram.proofs.Questions.{HoldsAfter, node_question, room_question, nodes_question, free_question, part_question, current_question, children_question, arms_question, child_known}
 
 -- a question and what follows it, put to the history; x goes along
@@ -119,21 +117,21 @@ module _ {P W : Type 0} (kind : Performance.Ghosts P) (weights : Weight.Ghosts W
   After h call lent reply t' s' = HoldsAfter kind weights (entry call lent reply ∷ h) t' s' × Known (entry call lent reply ∷ h) t'
 
   module _ (h : History P W) (t t' : Table) (s s' : List (Term P W)) (sound : Sound t) (sound' : Sound t') (holds : HoldsAfter kind weights h t s) (known : Known h t) (lent : ℕ) where
-    pub idle_after : (call : Call P W) (reply : Reply P W) → Idle (entry call lent reply) → t' ≡ t → ((j : ℕ) → j < 48 → places_of j s' ≡ places_of j s) → After h call lent reply t' s'
+    pub idle_after : (call : Call P W) (reply : Reply P W) → Idle (entry call lent reply) → t' ≡ t → ((j : ℕ) → j < NODES → places_of j s' ≡ places_of j s) → After h call lent reply t' s'
     idle_after call reply idle records places = subst (λ z. After h call lent reply z s') (sym records) (
       holds_idle h t s' (holds_there sound s s' places holds) (entry call lent reply) idle,
       known_more (entry call lent reply) h t t (omega arith) (λ k c. absurd (none_or_some idle.collects_none c)) known,
     )
 
-    pub refused_after : {A : Type 0} (call : Call P W) (reply : Reply P W) (r : Result A Refusal) (to : A → Answer P W) (why : Refusal) → Refused t s r t' s' why → reply ≡ told to r →
+    pub refused_after : {A : Type 0} (call : Call P W) (reply : Reply P W) (r : Result A Refusal) (to : A → Answer P W) (why : Refusal) → Refused t s r t' s' why → reply ≡ as_reply to r →
         (reply ≡ Err why) × After h call lent reply t' s'
     refused_after call reply r to why x e =
-        let is = e ∙ ap (told to) x.answer in
+        let is = e ∙ ap (as_reply to) x.answer in
         (is, subst (λ z. After h call lent z t' s') (sym is) (idle_after call (Err why) (refused_idle call lent why) x.records (λ j l. ap (places_of j) x.store)))
 
-    too_long_after : (k : ℕ) (reply : Reply P W) (r : Result ℕ Refusal) → TooLong t s r t' s' → reply ≡ told number r → (reply ≡ Err LongResult) × After h (collecting k) lent reply t' s'
+    too_long_after : (k : ℕ) (reply : Reply P W) (r : Result ℕ Refusal) → TooLong t s r t' s' → reply ≡ as_reply number r → (reply ≡ Err LongResult) × After h (collecting k) lent reply t' s'
     too_long_after k reply r x e =
-        let is = e ∙ ap (told number) x.answer in
+        let is = e ∙ ap (as_reply number) x.answer in
         (is, subst (λ z. After h (collecting k) lent z t' s') (sym is) (idle_after (collecting k) (Err LongResult) (refused_idle (collecting k) lent LongResult) x.records (λ j l. x.store.places j l (λ f. f))))
 
     -- one more node: what is collected since is what was
@@ -157,8 +155,8 @@ module _ {P W : Type 0} (kind : Performance.Ghosts P) (weights : Weight.Ghosts W
     apart : {k : ℕ} → k < t.count → k ≢ t.count
     apart l e = omega (arith, l, e)
 
-    pub adding_right : (laws : Kind kind) (weigh : Weighing weights) (given : List (Term P W)) (reply : Reply P W) (r : Result ℕ Refusal) → 3200 ≤ length s →
-        Added kind weights t s given r t' s' → reply ≡ told number r → RightAnswer kind weights h reply (adding given) × After h (adding given) lent reply t' s'
+    pub adding_right : (laws : Kind kind) (weigh : Weighing weights) (given : List (Term P W)) (reply : Reply P W) (r : Result ℕ Refusal) → STORE ≤ length s →
+        Added kind weights t s given r t' s' → reply ≡ as_reply number r → RightAnswer kind weights h reply (adding given) × After h (adding given) lent reply t' s'
     adding_right laws weigh given reply r roomy (inr (n, x)) e = absurd (n roomy)
     adding_right laws weigh given reply r roomy (inl (q₀, a)) e =
         through (room_question kind weights h t s sound holds) a (λ x. refused_after (adding given) reply r number NoNumberLeft x e)
@@ -167,7 +165,7 @@ module _ {P W : Type 0} (kind : Performance.Ghosts P) (weights : Weight.Ghosts W
       where
         accepted : r ≡ Ok t.count → (row : List (Term P W)) → RowOf kind weights given row → PartAdded t t' (length row) → RowPut t.count row s s' → (reply ≡ Ok (number (made h))) × After h (adding given) lent reply t' s'
         accepted ok row is_row changed put =
-            let is = e ∙ ap (told number) ok in
+            let is = e ∙ ap (as_reply number) ok in
             let now : Entry P W = entry (adding given) lent (Ok (number t.count)) in (
               is ∙ ap (λ z. Ok (number z)) holds.count,
               subst (λ z. After h (adding given) lent z t' s') (sym is) (
@@ -181,7 +179,7 @@ module _ {P W : Type 0} (kind : Performance.Ghosts P) (weights : Weight.Ghosts W
     -- what is common to both joinings
     joins_right : (call : Call P W) (m : Making P W) (form : Form) (named : List ℕ) (reply : Reply P W) (r : Result ℕ Refusal) →
         ((k : ℕ) → making_by call (Ok (number k)) ≡ Some (k, m)) → ((x : Reply P W) → restating_by call x ≡ None) → ((x : Reply P W) → collecting_by call x ≡ None) →
-        noted_states (Some (t.count, m)) (states_of h) ≡ states_of h → form ≢ Part → (form_at t' t.count ≡ form → children_at t' t.count ≡ named → Matches m t' t.count) → s' ≡ s → reply ≡ told number r →
+        noted_states (Some (t.count, m)) (states_of h) ≡ states_of h → form ≢ Part → (form_at t' t.count ≡ form → children_at t' t.count ≡ named → Matches m t' t.count) → s' ≡ s → reply ≡ as_reply number r →
         Asked (All (λ c. c < t.count) named) (Refused t s r t' s NoNode) (Asked (All (Free t) named) (Refused t s r t' s InUse) (Asked (AllPairs ◌≢◌ named) (Refused t s r t' s Repeated) ((r ≡ Ok t.count) × NodeJoined t t' form named))) →
         Asked (All (λ c. c < made h) named) (reply ≡ Err NoNode) (Asked (All (Unused h) named) (reply ≡ Err InUse) (Asked (AllPairs ◌≢◌ named) (reply ≡ Err Repeated) (reply ≡ Ok (number (made h))))) × After h call lent reply t' s'
     joins_right call m form named reply r makes_m restates_none collects_none states_kept joined as_made kept e a =
@@ -195,7 +193,7 @@ module _ {P W : Type 0} (kind : Performance.Ghosts P) (weights : Weight.Ghosts W
 
         accepted : r ≡ Ok t.count → NodeJoined t t' form named → (reply ≡ Ok (number (made h))) × After h call lent reply t' s'
         accepted ok changed =
-            let is = e ∙ ap (told number) ok in
+            let is = e ∙ ap (as_reply number) ok in
             let now : Entry P W = entry call lent (Ok (number t.count)) in
             let none_c : collects now ≡ None = collects_none (Ok (number t.count)) in
             let none_r : restates now ≡ None = restates_none (Ok (number t.count)) in
@@ -220,8 +218,8 @@ module _ {P W : Type 0} (kind : Performance.Ghosts P) (weights : Weight.Ghosts W
     bridge_not_part : Bridge ≢ Part
     bridge_not_part e = true≢false (sym (ap is_part e))
 
-    pub joining_right : (way : Way) (named : List ℕ) (reply : Reply P W) (r : Result ℕ Refusal) → 3200 ≤ length s → s' ≡ s →
-        Joins kind weights t s (Joined way) named r t' → reply ≡ told number r → RightAnswer kind weights h reply (joining way named) × After h (joining way named) lent reply t' s'
+    pub joining_right : (way : Way) (named : List ℕ) (reply : Reply P W) (r : Result ℕ Refusal) → STORE ≤ length s → s' ≡ s →
+        Joins kind weights t s (Joined way) named r t' → reply ≡ as_reply number r → RightAnswer kind weights h reply (joining way named) × After h (joining way named) lent reply t' s'
     joining_right way named reply r roomy kept (inr (n, x)) e = absurd (n roomy)
     joining_right way named reply r roomy kept (inl (q₀, a)) e =
         through (room_question kind weights h t s sound holds) a (λ x. refused_at NoNumberLeft x)
@@ -234,8 +232,8 @@ module _ {P W : Type 0} (kind : Performance.Ghosts P) (weights : Weight.Ghosts W
         none_c : (x : Reply P W) → collecting_by (joining way named) x ≡ None
         none_c x = refl
 
-    pub bridging_right : (a b c d g : ℕ) (reply : Reply P W) (r : Result ℕ Refusal) → 3200 ≤ length s → s' ≡ s →
-        Joins kind weights t s Bridge (a ∷ b ∷ c ∷ d ∷ g ∷ []) r t' → reply ≡ told number r → RightAnswer kind weights h reply (bridging a b c d g) × After h (bridging a b c d g) lent reply t' s'
+    pub bridging_right : (a b c d g : ℕ) (reply : Reply P W) (r : Result ℕ Refusal) → STORE ≤ length s → s' ≡ s →
+        Joins kind weights t s Bridge (a ∷ b ∷ c ∷ d ∷ g ∷ []) r t' → reply ≡ as_reply number r → RightAnswer kind weights h reply (bridging a b c d g) × After h (bridging a b c d g) lent reply t' s'
     bridging_right a b c d g reply r roomy kept (inr (n, x)) e = absurd (n roomy)
     bridging_right a b c d g reply r roomy kept (inl (q₀, asked)) e =
         through (room_question kind weights h t s sound holds) asked (λ x. refused_at NoNumberLeft x)
@@ -247,8 +245,8 @@ module _ {P W : Type 0} (kind : Performance.Ghosts P) (weights : Weight.Ghosts W
         refused_at : (why : Refusal) → Refused t s r t' s why → (reply ≡ Err why) × After h (bridging a b c d g) lent reply t' s'
         refused_at why x = refused_after (bridging a b c d g) reply r number why (subst (λ z. Refused t s r t' z why) (sym kept) x) e
 
-    pub restating_right : (weigh : Weighing weights) (k : ℕ) (given : List (Term P W)) (reply : Reply P W) (r : Result ℕ Refusal) → 3200 ≤ length s →
-        Restated kind weights t s k given r t' s' → reply ≡ told number r → RightAnswer kind weights h reply (restating k given) × After h (restating k given) lent reply t' s'
+    pub restating_right : (weigh : Weighing weights) (k : ℕ) (given : List (Term P W)) (reply : Reply P W) (r : Result ℕ Refusal) → STORE ≤ length s →
+        Restated kind weights t s k given r t' s' → reply ≡ as_reply number r → RightAnswer kind weights h reply (restating k given) × After h (restating k given) lent reply t' s'
     restating_right weigh k given reply r roomy (inr (n, x)) e = absurd (n roomy)
     restating_right weigh k given reply r roomy (inl (q₀, a)) e =
         through (node_question kind weights h t s sound holds k) a (λ x. refused_after (restating k given) reply r number NoNode x e)
@@ -259,7 +257,7 @@ module _ {P W : Type 0} (kind : Performance.Ghosts P) (weights : Weight.Ghosts W
         accepted : k < t.count → form_at t k ≡ Part → (row : List (Term P W)) → RowOf kind weights given row → r ≡ Ok (length row) → PartRestated t t' k (length row) → RowPut k row s s' →
             ((x : List (Term P W)) × RowOf kind weights given x × (reply ≡ Ok (number (length x)))) × After h (restating k given) lent reply t' s'
         accepted low is_a_part row is_row ok changed put =
-            let is = e ∙ ap (told number) ok in
+            let is = e ∙ ap (as_reply number) ok in
             let now : Entry P W = entry (restating k given) lent (Ok (number (length row))) in (
               (row, is_row, is),
               subst (λ z. After h (restating k given) lent z t' s') (sym is) (
@@ -282,57 +280,43 @@ module _ {P W : Type 0} (kind : Performance.Ghosts P) (weights : Weight.Ghosts W
             right j x = since_kept (entry (restating k given) lent (Ok (number (length row)))) h j refl
                 (λ p states r b. x.1 (subst (λ z. Beneath z (drawing_of h j)) (sym (first_same r)) b)) x.0
 
-    pub collecting_right : (laws : Kind kind) (weigh : Weighing weights) (k : ℕ) (reply : Reply P W) (r : Result ℕ Refusal) → 3200 ≤ length s →
-        Collected kind weights t s k r t' s' → reply ≡ told number r → RightAnswer kind weights h reply (collecting k) × After h (collecting k) lent reply t' s'
+    pub collecting_right : (laws : Kind kind) (weigh : Weighing weights) (k : ℕ) (reply : Reply P W) (r : Result ℕ Refusal) → STORE ≤ length s →
+        Collected kind weights t s k r t' s' → reply ≡ as_reply number r → RightAnswer kind weights h reply (collecting k) × After h (collecting k) lent reply t' s'
     collecting_right laws weigh k reply r roomy (inr (n, x)) e = absurd (n roomy)
     collecting_right laws weigh k reply r roomy (inl (q₀, a)) e =
         through (node_question kind weights h t s sound holds k) a (λ x. refused_after (collecting k) reply r number NoNode x e)
         (λ low a. through (not_part low) a (λ x. refused_after (collecting k) reply r number NotJoined x e)
         (λ joined a. through (children_question kind weights h t s sound holds k low) a (λ x. refused_after (collecting k) reply r number StaleChild x e)
         (λ current a. through (arms_question kind weights h t s sound holds laws weigh k low current) a (λ x. refused_after (collecting k) reply r number LongArm x e)
-        (λ q a. worked low joined current a.0 a.1 a.2 a.3))))
+        (λ q a. through (tells low joined current).fits a (λ x. too_long_after k reply r x e)
+        (λ fit a. worked low joined current a.0 a.1 a.2 a.3 a.4)))))
       where
         not_part : k < t.count → (form_at t k ≢ Part) ↔ (¬ IsPart h k)
         not_part low =
             let iff = part_question kind weights h t s sound holds k low in
             ((λ n p. n (iff.1 p)), (λ n p. n (iff.0 p)))
 
-        Short : Type 0
-        Short = ResultsShort kind weights h k
+        -- the row of the node is that of its drawing, from the children's rows as from the states of the parts
+        tells : k < t.count → form_at t k ≢ Part → All (λ c. status_at t c ≡ UpToDate) (children_at t k) → SameResults kind weights (row_at t s) (states_of h) (joining_of t k) (drawing_of h k)
+        tells low joined current =
+            let drawn = holds.drawn k low in
+            subst (SameResults kind weights (row_at t s) (states_of h) (joining_of t k)) (sym drawn) (joining_same laws weigh (row_at t s) (states_of h) sound k low joined (drawing_of h) (subst NoPartTwice drawn (none_twice sound holds.drawn k low))
+            (All-weaker (Contains (children_at t k)) (λ c. SameDistribution kind weights (row_at t s c) (enumeration kind weights (states_of h) (drawing_of h c)))
+            (λ c i p. sym ((holds.rows c (child_known kind weights h t s sound holds k low c i) (All-contains (λ c. status_at t c ≡ UpToDate) (children_at t k) c current i)).same p))
+            (children_at t k) (All-contains_itself (children_at t k))))
 
-        ends : k < t.count → drawing_of h k ≡ drawn_form (form_at t k) k (children_at t k) (drawing_of h)
-        ends low = holds.drawn k low
-
-        rows : k < t.count → All (λ c. status_at t c ≡ UpToDate) (children_at t k) → (c : ℕ) → Contains (children_at t k) c → RowOf kind weights (enumeration kind weights (states_of h) (drawing_of h c)) (row_at t s c)
-        rows low current c i = holds.rows c (child_known kind weights h t s sound holds k low c i) (All-contains (λ c. status_at t c ≡ UpToDate) (children_at t k) c current i)
-
-        once : k < t.count → NoPartTwice (drawn_form (form_at t k) k (children_at t k) (drawing_of h))
-        once low = subst NoPartTwice (ends low) (none_twice sound holds.drawn k low)
-
-        worked : k < t.count → form_at t k ≢ Part → All (λ c. status_at t c ≡ UpToDate) (children_at t k) → (results : List (List (Term P W))) (row : List (Term P W)) →
-            RunningResults kind weights (form_at t k) (map (row_at t s) (children_at t k)) results row →
-            Asked (All (λ result. length result ≤ 64) results) (TooLong t s r t' s') ((r ≡ Ok (length row)) × NodeCollected t t' k (length row) × RowPut k row s s') →
-            Asked Short (reply ≡ Err LongResult) ((row : List (Term P W)) × RowOfNode kind weights h k row × (reply ≡ Ok (number (length row)))) × After h (collecting k) lent reply t' s'
-        worked low joined current results row are (inr (n, x)) =
-            let last = none_of kind weights laws weigh (form_at t k) (map (row_at t s) (children_at t k)) results row are n in
-            let y = too_long_after k reply r x e in
-            let long = last_long laws weigh (states_of h) (drawing_of h) (row_at t s) (form_at t k) k (children_at t k) (rows low current) (once low) last in
-            (inr ((λ short. let b = short long.0 (subst (λ z. RunningResult kind weights (states_of h) z long.0) (sym (ends low)) long.1) in absurd (omega (arith, b, long.2))), y.0), y.1)
-        worked low joined current results row are (inl (short, x)) =
-            let last = last_of kind weights laws weigh (form_at t k) (map (row_at t s) (children_at t k)) results row are short in
-            let is = e ∙ ap (told number) x.0 in
+        worked : k < t.count → form_at t k ≢ Part → All (λ c. status_at t c ≡ UpToDate) (children_at t k) → (row : List (Term P W)) →
+            RowOfDrawing kind weights (row_at t s) (joining_of t k) row → r ≡ Ok (length row) → NodeCollected t t' k (length row) → RowPut k row s s' →
+            ((row : List (Term P W)) × RowOfNode kind weights h k row × (reply ≡ Ok (number (length row)))) × After h (collecting k) lent reply t' s'
+        worked low joined current row found ok changed put =
+            let is = e ∙ ap (as_reply number) ok in
             let now : Entry P W = entry (collecting k) lent (Ok (number (length row))) in
-            let is_row = subst (λ z. RowOf kind weights (enumeration kind weights (states_of h) z) row) (sym (ends low))
-            (last_row laws weigh (states_of h) (drawing_of h) (row_at t s) (form_at t k) k (children_at t k) (rows low current) (once low) row last) in (
-              inl (
-                (λ q running. last_short laws weigh (states_of h) (drawing_of h) (row_at t s) (form_at t k) k (children_at t k) (rows low current) (once low) row last q
-                    (subst (λ z. RunningResult kind weights (states_of h) z q) (ends low) running)),
-                (row, is_row, is),
-              ),
+            let is_row = (tells low joined current).rows row found in (
+              (row, is_row, is),
               subst (λ z. After h (collecting k) lent z t' s') (sym is) (
                 holds_collected kind weights (made h) (making_of h) (drawing_of h) (states_of h) (CollectedSince h) t t' s s' sound sound' holds k low
-                    row is_row joined x.1 x.2 (CollectedSince (now ∷ h)) (λ j b. (left j, right j)) left,
-                known_more now h t t' (omega (arith, x.1.number)) (λ j c. subst (λ z. z < t'.count) (some_same c) (omega (arith, low, x.1.number))) known,
+                    row is_row joined changed put (CollectedSince (now ∷ h)) (λ j b. (left j, right j)) left,
+                known_more now h t t' (omega (arith, changed.number)) (λ j c. subst (λ z. z < t'.count) (some_same c) (omega (arith, low, changed.number))) known,
               ),
             )
           where
@@ -344,13 +328,13 @@ module _ {P W : Type 0} (kind : Performance.Ghosts P) (weights : Weight.Ghosts W
             right j (inr c) = since_kept (entry (collecting k) lent (Ok (number (length row)))) h j refl (λ p states r. absurd (none_or_some refl r)) c
 
     -- a question, whose answer is as the row of the node has it
-    pub asking_right : {A : Type 0} (k : ℕ) (question : Question P) (reply : Reply P W) (r : Result A Refusal) (to : A → Answer P W) (x : Type 0) → 3200 ≤ length s → t' ≡ t → s' ≡ s →
-        Asks kind weights t s k r x → reply ≡ told to r → ((row : List (Term P W)) → row ≡ row_at t s k → length row ≡ size_at t k → x → RA.Tells kind weights row question reply) →
+    pub asking_right : {A : Type 0} (k : ℕ) (question : Question P) (reply : Reply P W) (r : Result A Refusal) (to : A → Answer P W) (x : Type 0) → STORE ≤ length s → t' ≡ t → s' ≡ s →
+        Asks kind weights t s k r x → reply ≡ as_reply to r → ((row : List (Term P W)) → row ≡ row_at t s k → length row ≡ size_at t k → x → RA.Tells kind weights row question reply) →
         RightAnswer kind weights h reply (asking k question) × After h (asking k question) lent reply t' s'
     asking_right k question reply r to x roomy same_t same_s (inr (n, y)) e tells = absurd (n roomy)
     asking_right k question reply r to x roomy same_t same_s (inl (q₀, a)) e tells =
-        through (node_question kind weights h t s sound holds k) a (λ y. (e ∙ ap (told to) y, unmoved))
-        (λ low a. through (current_question kind weights h t s sound holds k low) a (λ y. (e ∙ ap (told to) y, unmoved))
+        through (node_question kind weights h t s sound holds k) a (λ y. (e ∙ ap (as_reply to) y, unmoved))
+        (λ low a. through (current_question kind weights h t s sound holds k low) a (λ y. (e ∙ ap (as_reply to) y, unmoved))
         (λ current a. ((row_at t s k, holds.rows k low current, tells (row_at t s k) refl (holds.full k low current) a), unmoved)))
       where
         unmoved : After h (asking k question) lent reply t' s'

@@ -3,6 +3,7 @@ use Rattle.std.proofs.Common.{◌≡◌, ◌≢◌, ◌⊎◌, ◌↔◌, ℕ, z
 use Rattle.std.proofs.lemmas.Bool.{true≢false, eq-eqb, or_cases, or_left, or_right, false_from_ne_true}
 use Rattle.terms.specs.declared.term.Way.{Way}
 use Rattle.terms.specs.Drawings.{Drawing, joined, bridge, Children, one, more, PartList, only, and, followed_by, has, NoneTwice, places, places_of, Beneath, NoPartTwice}
+use Rattle.diagram.specs.declared.limits.TheConstants.{FEWEST_CHILDREN, ARMS}
 use Rattle.diagram.specs.declared.node.Form.{Form}
 use Rattle.diagram.specs.declared.node.Form.TheVariants.{Part, Joined, Bridge}
 use Rattle.diagram.specs.Histories.{followed_by_all}
@@ -114,7 +115,7 @@ module _ (drawing : ℕ → Drawing) where
       (λ n d e i j. same n d e (one_of_others c d cs i) (one_of_others c e cs j))
 
   -- a drawing that is joined or a bridge has the places of its children, one after another
-  pub drawn_places : (form : Form) (k : ℕ) (xs : List ℕ) → form ≢ Part → ((way : Way) → form ≡ Joined way → 2 ≤ length xs) → (form ≡ Bridge → length xs ≡ 5) →
+  pub drawn_places : (form : Form) (k : ℕ) (xs : List ℕ) → form ≢ Part → ((way : Way) → form ≡ Joined way → FEWEST_CHILDREN ≤ length xs) → (form ≡ Bridge → length xs ≡ ARMS) →
       (c : ℕ) × (cs : List ℕ) × (xs ≡ c ∷ cs) × (places (drawn_form form k xs drawing) ≡ places_of (followed_by_all (one (drawing c)) drawing cs))
   drawn_places Part k xs other two five = absurd (other refl)
   drawn_places (Joined way) k [] other two five = absurd (omega (arith, two way refl))

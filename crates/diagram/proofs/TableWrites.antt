@@ -5,13 +5,12 @@ use Rattle.std.proofs.lemmas.Bool.{cases_eq, cases_Bool}
 use Rattle.std.proofs.lemmas.List.{get_or-set_same, get_or-set_other}
 use Rattle.diagram.specs.declared.node.Form.{Form}
 use Rattle.diagram.specs.declared.node.Node.{Node}
-use Rattle.diagram.specs.declared.node.Status.TheVariants.{UpToDate}
 use Rattle.diagram.specs.declared.table.Table.{Table}
 use Rattle.diagram.specs.Nodes.{joined_by}
 use Rattle.diagram.specs.Records.{blank, node_at}
 use Rattle.diagram.specs.Changes.{NodeJoined, PartRestated, NodeCollected}
-use Rattle.diagram.specs.Writing.{UserSet, MarkedAbove}
-use Rattle.diagram.proofs.Naming.{test_finds, found_by_test}
+use Rattle.diagram.specs.Writing.{UserSet, MarkedAbove, with_collected}
+use Rattle.diagram.proofs.FoundByTest.{test_finds, found_by_test}
 
 none_finds : (q : ℕ) (ks : List ℕ) → ¬ Contains ks q → list_any (λ c. q == c) ks ≡ false
 none_finds q ks n = elim (cases_Bool (list_any (λ c. q == c) ks)) [ inl e ↦ absurd (n (found_by_test q ks e)) | inr e ↦ e ]
@@ -67,7 +66,7 @@ restated_written t marked k size high m = record {
     same : {A : Type 0} (f : Node → A) → f (record (node_at marked k) { size = size }) ≡ f (node_at marked k) → (j : ℕ) → f (get_or (set marked.nodes k (record (node_at marked k) { size = size })) j blank) ≡ f (node_at marked j)
     same f blind j = elsewhere marked.nodes k _ wide f blind j
 
-pub collected_written : (t : Table) (k size : ℕ) → k < length t.nodes → NodeCollected t (record t { nodes = set t.nodes k (record (node_at t k) { status = UpToDate; size = size }) }) k size
+pub collected_written : (t : Table) (k size : ℕ) → k < length t.nodes → NodeCollected t (with_collected t k size) k size
 collected_written t k size high = record {
   number = refl;
   collected = get_or-set_same t.nodes k _ _ high;

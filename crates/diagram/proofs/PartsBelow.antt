@@ -7,10 +7,10 @@ use Rattle.diagram.specs.declared.node.Form.TheVariants.{Part, Joined, Bridge}
 use Rattle.diagram.specs.declared.table.Table.{Table}
 use Rattle.diagram.specs.Records.{Sound, Uses, form_at, children_at, Beneath as Below, child, deeper}
 use Rattle.diagram.specs.Histories.{followed_by_all}
-use Rattle.diagram.proofs.Naming.{test_finds}
+use Rattle.diagram.proofs.FoundByTest.{test_finds}
 use Rattle.diagram.proofs.Climbing.{Above, user, higher, above_then, child_is_below, beneath_from_above}
 use Rattle.diagram.proofs.Drawn.{drawn_form, Drawn}
-use Rattle.diagram.proofs.Listed.{beneath_all, none_twice_all, drawn_places}
+use Rattle.diagram.proofs.PartsOfChildren.{beneath_all, none_twice_all, drawn_places}
 use Rattle.diagram.proofs.Facts.{is_part}
 
 -- part n is k itself or below it

@@ -3,6 +3,7 @@ use Rattle.std.proofs.Common.{◌≡◌, ◌≢◌, ◌⊎◌, ℕ, ◌<◌, ◌
 use Rattle.std.specs.List.{list_any}
 use Rattle.std.proofs.lemmas.Bool.{true≢false, false≢true, cases_eq, cases_Bool}
 use Rattle.std.proofs.lemmas.List.Elements.{All-contains}
+use Rattle.diagram.specs.declared.limits.TheConstants.{NODES, FEWEST_CHILDREN, CHILDREN, TERMS}
 use Rattle.diagram.specs.declared.node.Form.{Form}
 use Rattle.diagram.specs.declared.node.Form.TheVariants.{Part, Joined, Bridge}
 use Rattle.diagram.specs.declared.node.Status.{Status}
@@ -13,7 +14,7 @@ use Rattle.diagram.specs.Nodes.{Takes}
 use Rattle.diagram.specs.Records.{Fitting, Sound, SoundAt, node_at, form_at, status_at, size_at, Uses, Names, children_at, Beneath, child, deeper}
 use Rattle.diagram.specs.Changes.{PartAdded, NodeJoined, PartRestated, NodeCollected}
 use Rattle.diagram.specs.Calls.{Free}
-use Rattle.diagram.proofs.Naming.{test_finds, found_by_test}
+use Rattle.diagram.proofs.FoundByTest.{test_finds, found_by_test}
 use Rattle.diagram.proofs.Climbing.{child_is_below}
 use Rattle.diagram.proofs.Facts.{some_same, last_or_before, user_of, is_part}
 
@@ -39,7 +40,7 @@ names_same : {cs ds : List ℕ} (k : ℕ) → cs ≡ ds → list_any (λ c. k ==
 names_same k e h = subst (λ z. list_any (λ c. k == c) z ≡ true) e h
 
 module _ {t t' : Table} (s : Sound t) where
-  pub added_keeps : {size : ℕ} → t.count < 48 → size ≤ 64 → PartAdded t t' size → All (λ n. n ≤ 8) t'.arities → Sound t'
+  pub added_keeps : {size : ℕ} → t.count < NODES → size ≤ TERMS → PartAdded t t' size → All (λ n. n ≤ CHILDREN) t'.arities → Sound t'
   added_keeps {size} room small c short = record {
     few = omega (arith, c.number, room);
     short = short;
@@ -72,8 +73,8 @@ module _ {t t' : Table} (s : Sound t) where
       }
 
   -- children get the new node as their user, and had none
-  pub joined_keeps : {form : Form} {named : List ℕ} → t.count < 48 → Takes form (length named) × (form ≢ Part) → All (λ c. c < t.count) named → All (Free t) named → AllPairs ◌≢◌ named →
-      NodeJoined t t' form named → All (λ n. n ≤ 8) t'.arities → Sound t'
+  pub joined_keeps : {form : Form} {named : List ℕ} → t.count < NODES → Takes form (length named) × (form ≢ Part) → All (λ c. c < t.count) named → All (Free t) named → AllPairs ◌≢◌ named →
+      NodeJoined t t' form named → All (λ n. n ≤ CHILDREN) t'.arities → Sound t'
   joined_keeps {form} {named} room takes nodes free once c short = record {
     few = omega (arith, c.number, room);
     short = short;
@@ -148,7 +149,7 @@ module _ {t t' : Table} (s : Sound t) where
       }
 
   -- what uses a node above the part is above the part too
-  pub restated_keeps : {k size : ℕ} → form_at t k ≡ Part → k < t.count → size ≤ 64 → PartRestated t t' k size → All (λ n. n ≤ 8) t'.arities → Sound t'
+  pub restated_keeps : {k size : ℕ} → form_at t k ≡ Part → k < t.count → size ≤ TERMS → PartRestated t t' k size → All (λ n. n ≤ CHILDREN) t'.arities → Sound t'
   restated_keeps {k} {size} part_at low small c short = record {
     few = omega (arith, c.number, s.few);
     short = short;
@@ -167,7 +168,7 @@ module _ {t t' : Table} (s : Sound t) where
           record {
             own = record {
               sized = elim (cases_eq j k) [
-                | inl e ↦ subst (λ z. size_at t' z ≤ 64) (sym e) (omega (arith, c.resized, small))
+                | inl e ↦ subst (λ z. size_at t' z ≤ TERMS) (sym e) (omega (arith, c.resized, small))
                 | inr n ↦ omega (arith, c.sizes j h n, o.own.sized)
               ];
               part_is_current = λ p.
@@ -177,7 +178,7 @@ module _ {t t' : Table} (s : Sound t) where
                     | inr b ↦ no_part_above j h was b
                   ]);
               part_is_alone = λ p. ap length (c.children j h) ∙ o.own.part_is_alone (sym (c.forms j h) ∙ p);
-              joins_two_or_more = λ way p. subst (λ z. 2 ≤ length z) (sym (c.children j h)) (o.own.joins_two_or_more way (sym (c.forms j h) ∙ p));
+              joins_two_or_more = λ way p. subst (λ z. FEWEST_CHILDREN ≤ length z) (sym (c.children j h)) (o.own.joins_two_or_more way (sym (c.forms j h) ∙ p));
               bridges_five = λ p. ap length (c.children j h) ∙ o.own.bridges_five (sym (c.forms j h) ∙ p);
               children_below = subst (All (λ c. c < j)) (sym (c.children j h)) o.own.children_below;
               children_apart = subst (AllPairs ◌≢◌) (sym (c.children j h)) o.own.children_apart;
@@ -197,8 +198,8 @@ module _ {t t' : Table} (s : Sound t) where
           }
 
   -- no child of the collected node is stale
-  pub collected_keeps : {k size : ℕ} → k < t.count → form_at t k ≢ Part → All (λ c. status_at t c ≡ UpToDate) (children_at t k) → size ≤ 64 →
-      NodeCollected t t' k size → All (λ n. n ≤ 8) t'.arities → Sound t'
+  pub collected_keeps : {k size : ℕ} → k < t.count → form_at t k ≢ Part → All (λ c. status_at t c ≡ UpToDate) (children_at t k) → size ≤ TERMS →
+      NodeCollected t t' k size → All (λ n. n ≤ CHILDREN) t'.arities → Sound t'
   collected_keeps {k} {size} low joined current small c short = record {
     few = omega (arith, c.number, s.few);
     short = short;
@@ -224,7 +225,7 @@ module _ {t t' : Table} (s : Sound t) where
           record {
             own = record {
               sized = elim (cases_eq j k) [
-                | inl e ↦ subst (λ z. size_at t' z ≤ 64) (sym e) (omega (arith, ap (λ n. n.size) c.collected, small))
+                | inl e ↦ subst (λ z. size_at t' z ≤ TERMS) (sym e) (omega (arith, ap (λ n. n.size) c.collected, small))
                 | inr n ↦ omega (arith, ap (λ n. n.size) (c.others j h n), o.own.sized)
               ];
               part_is_current = λ p. elim (cases_eq j k) [
@@ -232,7 +233,7 @@ module _ {t t' : Table} (s : Sound t) where
                 | inr n ↦ ap (λ n. n.status) (c.others j h n) ∙ o.own.part_is_current (sym (form_kept j h) ∙ p)
               ];
               part_is_alone = λ p. ap length (c.children j h) ∙ o.own.part_is_alone (sym (form_kept j h) ∙ p);
-              joins_two_or_more = λ way p. subst (λ z. 2 ≤ length z) (sym (c.children j h)) (o.own.joins_two_or_more way (sym (form_kept j h) ∙ p));
+              joins_two_or_more = λ way p. subst (λ z. FEWEST_CHILDREN ≤ length z) (sym (c.children j h)) (o.own.joins_two_or_more way (sym (form_kept j h) ∙ p));
               bridges_five = λ p. ap length (c.children j h) ∙ o.own.bridges_five (sym (form_kept j h) ∙ p);
               children_below = subst (All (λ c. c < j)) (sym (c.children j h)) o.own.children_below;
               children_apart = subst (AllPairs ◌≢◌) (sym (c.children j h)) o.own.children_apart;
@@ -257,8 +258,8 @@ module _ {t t' : Table} (s : Sound t) where
                 ];
           }
 
--- no form takes more than eight children
-pub takes_few : (form : Form) (n : ℕ) → Takes form n → n ≤ 8
+-- no form takes more children than a node has places for
+pub takes_few : (form : Form) (n : ℕ) → Takes form n → n ≤ CHILDREN
 takes_few Part n h = omega (arith, h)
 takes_few (Joined way) n h = h.1
 takes_few Bridge n h = omega (arith, h)

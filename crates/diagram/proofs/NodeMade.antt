@@ -20,13 +20,13 @@ use Rattle.diagram.specs.Records.{Sound, node_at, form_at, status_at, size_at, c
 use Rattle.diagram.specs.Changes.{PartAdded, NodeJoined}
 use Rattle.diagram.specs.Store.{places_of, row_at, RowPut}
 use Rattle.diagram.specs.Histories.{Making, added, joined_from, bridged_from, drawn_by}
-use Rattle.diagram.proofs.Naming.{test_finds, found_by_test}
-use Rattle.diagram.proofs.Keeping.{not_both}
+use Rattle.diagram.proofs.FoundByTest.{test_finds, found_by_test}
+use Rattle.diagram.proofs.RecordsSound.{not_both}
 use Rattle.diagram.proofs.Climbing.{child_is_below}
 use Rattle.diagram.proofs.Drawn.{Drawn, drawn_form}
-use Rattle.diagram.proofs.Listed.{drawn_same}
-use Rattle.diagram.proofs.Placed.{beneath_within}
-use Rattle.diagram.proofs.Holding.{Matches, Holds, but_at, but_else}
+use Rattle.diagram.proofs.PartsOfChildren.{drawn_same}
+use Rattle.diagram.proofs.PartsBelow.{beneath_within}
+use Rattle.diagram.proofs.HistoryFits.{Matches, Holds, but_at, but_else}
 use Rattle.diagram.proofs.Facts.{last_or_before}
 
 pub matches_same : {P W : Type 0} (m : Making P W) (t t' : Table) (k : ℕ) → form_at t' k ≡ form_at t k → children_at t' k ≡ children_at t k → Matches m t k → Matches m t' k
