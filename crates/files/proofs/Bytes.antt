@@ -1,13 +1,14 @@
 -- What is written tells its value and its end.
-use Rattle.std.proofs.Common.{◌≡◌, ℕ, ◌^◌, ◌<◌, List, [], ◌∷◌, ◌++◌, length, take, drop, get_or, flat_map, ap, sym, ◌∙◌, refl, arith}
-use Rattle.std.proofs.lemmas.List.{append_assoc}
+use Rattle.std.proofs.Common.{◌≡◌, ℕ, ◌+◌, ◌*◌, ◌^◌, ◌<◌, List, [], ◌∷◌, ◌++◌, length, take, drop, get_or, flat_map, ap, sym, ◌∙◌, refl, arith}
+use Rattle.files.specs.declared.limits.TheConstants.{DEMAND_BYTES}
+use Rattle.std.proofs.lemmas.List.{append_assoc, take-append-drop, drop-drop}
 use Rattle.std.proofs.lemmas.Nat.{from_be_bytes-to_be_bytes_4, from_be_bytes-to_be_bytes_8}
 use Rattle.std.specs.Int.{w32, w64, to_be_bytes, from_be_bytes}
 use Rattle.std.specs.declared.clone.Clone
-use Rattle.files.specs.declared.value.FilePerformance
-use Rattle.files.specs.declared.value.FileWeight
-use Rattle.files.specs.contracts.value.FilePerformance.TheBound as file_performance
-use Rattle.files.specs.contracts.value.FileWeight.TheBound as file_weight
+use Rattle.files.specs.declared.words.FilePerformance
+use Rattle.files.specs.declared.words.FileWeight
+use Rattle.files.specs.contracts.words.FilePerformance.TheBound as file_performance
+use Rattle.files.specs.contracts.words.FileWeight.TheBound as file_weight
 use Rattle.files.specs.Contents.{performance_bytes, state_bytes}
 use contract.Running
 use denote.RattleType
@@ -57,6 +58,14 @@ word64_once m n xs ys h k e =
 
 wide : (n : ℕ) → n < 2 ^ 32 → n < 2 ^ 64
 wide n h = omega arith
+
+-- a performance is read at a place, where each takes the bytes of a demand: it is written there, and what follows stands at the next place
+pub performance_at : {P : Type 0} (file_kind : FilePerformance.Ghosts P) (bytes : List ℕ) (i : ℕ) (p : P) → take DEMAND_BYTES (drop (DEMAND_BYTES * i) bytes) ≡ performance_bytes file_kind p →
+    drop (DEMAND_BYTES * i) bytes ≡ performance_bytes file_kind p ++ drop (DEMAND_BYTES * (i + 1)) bytes
+performance_at file_kind bytes i p is =
+    let next : DEMAND_BYTES * i + DEMAND_BYTES ≡ DEMAND_BYTES * (i + 1) = omega arith in
+    let after = drop-drop DEMAND_BYTES (DEMAND_BYTES * i) bytes ∙ ap (λ n. drop n bytes) next in
+    sym (take-append-drop DEMAND_BYTES (drop (DEMAND_BYTES * i) bytes)) ∙ (λ j. is j ++ after j)
 
 module _ {P : Type 0} {file_kind : FilePerformance.Ghosts P} (words : FileKind file_kind) where
   pub performance_once : Once (performance_bytes file_kind)

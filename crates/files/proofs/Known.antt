@@ -9,22 +9,24 @@ use Rattle.kinds.proofs.Lawful.{Kind, Weighing}
 use Rattle.terms.specs.declared.term.Term.{Term}
 use Rattle.terms.proofs.Canonical.{row_unique}
 use Rattle.diagram.specs.Histories.{History, made}
+use Rattle.diagram.specs.InTurn.{Short, TooLong}
 use Rattle.diagram.specs.RightAnswers.{RowOfNode}
-use Rattle.files.specs.declared.value.FilePerformance
-use Rattle.files.specs.declared.value.FileWeight
+use Rattle.files.specs.declared.words.FilePerformance
+use Rattle.files.specs.declared.words.FileWeight
 use Rattle.files.specs.declared.fault.Fault.{Fault}
 use Rattle.files.specs.Contents.{Contents, contents_bytes}
-use Rattle.files.specs.Drawn.{drawn}
+use Rattle.diagram.specs.Makings.{drawn}
 use Rattle.files.specs.Reading.{ValidContents}
-use Rattle.files.specs.Analyses.{Short, TooLong, Reported, ReportedOr, AnalysedAs}
+use Rattle.files.specs.Analyses.{Reported, ReportedOr, AnalysedAs}
 use Rattle.files.specs.Faults.{fault_text}
 use Rattle.files.specs.Listed.{Analysed}
 use Rattle.files.specs.Printed.{printed, Answers}
-use Rattle.files.specs.Reports.{longest_report, report_of, Unreported, Put}
+use Rattle.files.specs.declared.limits.TheConstants.{LONGEST_REPORT}
+use Rattle.files.specs.Reports.{report_of, Unreported, Put}
 use Rattle.diagram.proofs.Asking.{yes}
 use Rattle.files.proofs.Bytes.{FileKind, FileWeighing}
 use Rattle.files.proofs.Reading.{writing_read, reads_back}
-use Rattle.files.proofs.Running.{granted}
+use Rattle.diagram.proofs.RunGoesOn.{granted}
 
 module _
     {P W : Type 0} {kind : Performance.Ghosts P} {weights : Weight.Ghosts W} (laws : Kind kind) (weigh : Weighing weights)
@@ -37,7 +39,7 @@ module _
     abbrev report : List ℕ
     report = report_of kind weights file_kind file_weights c.demands row
 
-    module _ (few : length report ≤ longest_report) (out : List ℕ) (r : Result ℕ Fault) (out' : List ℕ) where
+    module _ (few : length report ≤ LONGEST_REPORT) (out : List ℕ) (r : Result ℕ Fault) (out' : List ℕ) where
       not_long : (k : ℕ) → k < made h → (why : _) → TooLong kind weights h k why → ⊥
       not_long k l why (inl (arms, e)) = arms (short k l).0
       not_long k l why (inr (arms, results, e)) = results (short k l).1
@@ -58,15 +60,15 @@ module _
 
 -- an output that has room for every report
 empty : List ℕ
-empty = replicate longest_report 0
+empty = replicate LONGEST_REPORT 0
 
-empty_long : length empty ≡ longest_report
+empty_long : length empty ≡ LONGEST_REPORT
 unfolding empty
-empty_long = length-replicate {A = ℕ} longest_report 0
+empty_long = length-replicate {A = ℕ} LONGEST_REPORT 0
 
 module _ (bytes : List ℕ) (old new : Option (List ℕ)) where
   -- what is printed of a file with this report
-  pub report_printed : (report : List ℕ) → length report ≤ longest_report →
+  pub report_printed : (report : List ℕ) → length report ≤ LONGEST_REPORT →
       ((out : List ℕ) (r : Result ℕ Fault) (out' : List ℕ) → Analysed bytes out r out' ↔ Put report out r out') → Answers bytes old new ↔ Appends old new report
   report_printed report few is = (
     λ (out, r, out', long, x, appends).

@@ -4,7 +4,7 @@ use Rattle.std.proofs.lemmas.List.{flat_map_more, take_more, take_all, drop_all}
 use Rattle.std.proofs.lemmas.Bool.{cases_lt}
 use Rattle.std.proofs.Math.Seq.{drop-cons}
 use Rattle.files.specs.declared.page.Page.{Page}
-use Rattle.files.specs.declared.value.FilePerformance
+use Rattle.files.specs.declared.words.FilePerformance
 use Rattle.files.specs.Contents.{Ahead, performance_bytes}
 use Rattle.files.specs.Pages.{Wrote}
 use Rattle.files.proofs.Pages.{nothing, ◌and_then◌, same}

@@ -3,7 +3,7 @@ use Rattle.std.proofs.Common.{◌≡◌, ℕ, ◌<◌, List, [], ◌∷◌, ◌+
 use Rattle.std.proofs.lemmas.List.{append_assoc, append-nil}
 use Rattle.std.proofs.lemmas.List.Concat.{flat_map-append}
 use Rattle.files.specs.Contents.{Ahead}
-use Rattle.files.specs.Steps.{ManyAhead}
+use Rattle.files.specs.Analysing.{ManyAhead}
 use Rattle.files.proofs.Bytes.{Once}
 
 module _ {V : Type 0} (write : V → List ℕ) where

@@ -1,17 +1,18 @@
 -- A file has one answer, and is read as exactly the contents that it writes.
 use Rattle.std.proofs.Common.{◌≡◌, ℕ, zero, suc, ◌+◌, ◌-◌, ◌≤◌, List, [], ◌∷◌, ◌++◌, length, get_or, drop, Result, Ok, Err, append_assoc, append-nil, zero-add, ap, sym, ◌∙◌, refl, subst, subst₂, inl, inr, arith}
+use Rattle.files.specs.declared.limits.TheConstants.{DEMANDS}
 use Rattle.kinds.specs.declared.performance.Performance
 use Rattle.kinds.specs.declared.weight.Weight
 use Rattle.diagram.specs.Refusals.{Asked}
 use Rattle.diagram.specs.Histories.{Making, added, joined_from, bridged_from, History, Reply, number}
 use Rattle.diagram.specs.RightAnswers.{RightAnswer}
 use Rattle.diagram.proofs.Asking.{yes}
-use Rattle.files.specs.declared.value.FilePerformance
-use Rattle.files.specs.declared.value.FileWeight
+use Rattle.files.specs.declared.words.FilePerformance
+use Rattle.files.specs.declared.words.FileWeight
 use Rattle.files.specs.declared.fault.Fault.{Fault}
 use Rattle.files.specs.declared.fault.Fault.TheVariants.{Refused}
 use Rattle.files.specs.Contents.{Contents, demand_bytes, node_bytes, nodes_bytes, contents_bytes}
-use Rattle.files.specs.Drawn.{call_of, drawn, TakesAll, TakesNext, TakenOr}
+use Rattle.diagram.specs.Makings.{call_of, drawn, TakesAll, TakesNext, TakenOr}
 use Rattle.files.specs.Reading.{Whole, RecordsRead, ContentsRead, ValidContents, ReadsBack, ReadsOneWay}
 use Rattle.files.proofs.Bytes.{FileKind, FileWeighing, Once}
 use Rattle.files.proofs.Writing.{demand_once, demands_whole, node_once, node_headed, node_whole}
@@ -76,7 +77,7 @@ module _ {P W : Type 0} (kind : Performance.Ghosts P) (weights : Weight.Ghosts W
   record Rest (n : ℕ) (ms : List (Making P W)) (bytes : List ℕ) (c : Contents P W) : Type 0 where
     written : nodes_bytes file_kind file_weights ms ++ bytes ≡ writing c
     as_many : length c.nodes ≡ n + length ms
-    demands : (1 ≤ length c.demands) × (length c.demands ≤ 16)
+    demands : (1 ≤ length c.demands) × (length c.demands ≤ DEMANDS)
     taken : TakesAll kind weights c.nodes
 
   rest_read : (n : ℕ) (ms : List (Making P W)) (bytes : List ℕ) (c : Contents P W) → TakesAll kind weights ms → Read n ms bytes (Ok c) → Rest n ms bytes c

@@ -1,9 +1,10 @@
 -- The writing of a node, and that of the demands, tells what is written and its end, and passes the questions that it is asked.
 use Rattle.std.proofs.Common.{◌≡◌, ℕ, ◌*◌, ◌≤◌, List, [], ◌∷◌, ◌++◌, length, take, drop, flat_map, take_at, drop_at, length-append, mul-suc, ap, sym, ◌∙◌, refl, inl, inr, arith}
+use Rattle.files.specs.declared.limits.TheConstants.{DEMANDS, STATE_BYTES, DEMAND_BYTES}
 use Rattle.terms.specs.declared.term.Way.TheVariants.{Series, Parallel}
 use Rattle.diagram.specs.Histories.{Making, added, joined_from, bridged_from}
-use Rattle.files.specs.declared.value.FilePerformance
-use Rattle.files.specs.declared.value.FileWeight
+use Rattle.files.specs.declared.words.FilePerformance
+use Rattle.files.specs.declared.words.FileWeight
 use Rattle.files.specs.Contents.{performance_bytes, demand_bytes, state_bytes, node_bytes}
 use Rattle.files.specs.Reading.{NodeLetter, Headed, Whole}
 use Rattle.files.proofs.Bytes.{FileKind, FileWeighing, Once, head_same, tail_same, performance_once, state_once, many_once}
@@ -16,7 +17,7 @@ beginning_once us vs xs ys l e = (
 )
 
 -- values of one length each
-length_many : {V : Type 0} (write : V → List ℕ) (k : ℕ) → ((v : V) → length (write v) ≡ k) → (vs : List V) → length (flat_map write vs) ≡ k * length vs
+pub length_many : {V : Type 0} (write : V → List ℕ) (k : ℕ) → ((v : V) → length (write v) ≡ k) → (vs : List V) → length (flat_map write vs) ≡ k * length vs
 length_many write k each [] = omega arith
 length_many write k each (v ∷ vs) = omega (arith, length-append (write v) (flat_map write vs), each v, length_many write k each vs, mul-suc k (length vs))
 
@@ -25,11 +26,11 @@ module _ {P : Type 0} (file_kind : FilePerformance.Ghosts P) where
   demand_once words ds es xs ys e =
       many_once (performance_bytes file_kind) (performance_once words) ds es xs ys (head_same (tail_same e)) (tail_same (tail_same e))
 
-  pub demands_whole : (ds : List P) (rest : List ℕ) → (1 ≤ length ds) × (length ds ≤ 16) → Whole (demand_bytes file_kind ds ++ rest)
+  pub demands_whole : (ds : List P) (rest : List ℕ) → (1 ≤ length ds) × (length ds ≤ DEMANDS) → Whole (demand_bytes file_kind ds ++ rest)
   demands_whole ds rest few = (
     λ other. absurd (omega arith),
     λ same. few,
-    omega (arith, length-append (flat_map (performance_bytes file_kind) ds) rest, length_many (performance_bytes file_kind) 8 (λ p. refl) ds),
+    omega (arith, length-append (flat_map (performance_bytes file_kind) ds) rest, length_many (performance_bytes file_kind) DEMAND_BYTES (λ p. refl) ds),
   )
 
 module _ {P W : Type 0} (file_kind : FilePerformance.Ghosts P) (file_weights : FileWeight.Ghosts W) where
@@ -60,7 +61,7 @@ module _ {P W : Type 0} (file_kind : FilePerformance.Ghosts P) (file_weights : F
   node_whole (added states) rest = (
     λ other. absurd (omega arith),
     λ other. absurd (omega arith),
-    omega (arith, length-append (flat_map (state_bytes file_kind file_weights) states) rest, length_many (state_bytes file_kind file_weights) 16 (λ t. refl) states),
+    omega (arith, length-append (flat_map (state_bytes file_kind file_weights) states) rest, length_many (state_bytes file_kind file_weights) STATE_BYTES (λ t. refl) states),
   )
   node_whole (joined_from Series children) rest =
       (λ other. absurd (omega arith), λ other. absurd (omega arith), omega (arith, length-append children rest))

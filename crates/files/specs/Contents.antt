@@ -1,12 +1,14 @@
 -- What a model file holds, and the bytes that write it.
-use Rattle.std.specs.Prelude.{◌≡◌, ℕ, ◌+◌, List, [], ◌∷◌, ◌++◌, length, flat_map}
+use Rattle.std.specs.Prelude.{◌≡◌, ℕ, ◌+◌, ◌*◌, List, [], ◌∷◌, ◌++◌, length, take, drop, flat_map}
 use Rattle.std.specs.Int.{w32, w64, to_be_bytes}
 use Rattle.terms.specs.declared.term.Term.{Term}
 use Rattle.terms.specs.declared.term.Way.{Way}
 use Rattle.terms.specs.declared.term.Way.TheVariants.{Series, Parallel}
+use Rattle.diagram.specs.declared.limits.TheConstants.{ARMS}
 use Rattle.diagram.specs.Histories.{Making, added, joined_from, bridged_from}
-use Rattle.files.specs.declared.value.FilePerformance
-use Rattle.files.specs.declared.value.FileWeight
+use Rattle.files.specs.declared.words.FilePerformance
+use Rattle.files.specs.declared.words.FileWeight
+use Rattle.files.specs.declared.limits.TheConstants.{DEMAND_BYTES}
 
 -- how each node is made, the newest first, as in a history; and the demands, in the order of the file
 pub record Contents (P W : Type 0) : Type 0 where
@@ -42,6 +44,13 @@ module _ {P : Type 0} (file_kind : FilePerformance.Ghosts P) where
   abbrev pub performance_bytes : P → List ℕ
   performance_bytes p = to_be_bytes w32 (file_kind.high p) ++ to_be_bytes w32 (file_kind.low p)
 
+  -- so demand i stands in bytes that write demands, or there is none
+  abbrev pub DemandAt : List ℕ → ℕ → P → Type 0
+  DemandAt bytes i p = take DEMAND_BYTES (drop (DEMAND_BYTES * i) bytes) ≡ performance_bytes p
+
+  abbrev pub NoDemandAt : List ℕ → ℕ → Type 0
+  NoDemandAt bytes i = ¬ Ahead performance_bytes (drop (DEMAND_BYTES * i) bytes)
+
   abbrev pub demand_bytes : List P → List ℕ
   demand_bytes demands = demand_letter ∷ length demands ∷ flat_map performance_bytes demands
 
@@ -54,7 +63,7 @@ module _ {P W : Type 0} (file_kind : FilePerformance.Ghosts P) (file_weights : F
   abbrev pub node_bytes : Making P W → List ℕ
   node_bytes (added states) = part_letter ∷ length states ∷ flat_map state_bytes states
   node_bytes (joined_from way children) = way_letter way ∷ length children ∷ children
-  node_bytes (bridged_from a b c d e) = bridge_letter ∷ 5 ∷ a ∷ b ∷ c ∷ d ∷ e ∷ []
+  node_bytes (bridged_from a b c d e) = bridge_letter ∷ ARMS ∷ a ∷ b ∷ c ∷ d ∷ e ∷ []
 
   -- record k writes node k
   abbrev pub nodes_bytes : List (Making P W) → List ℕ

@@ -7,12 +7,12 @@ use Rattle.kinds.specs.declared.weight.Weight
 use Rattle.terms.specs.declared.term.Term.{Term}
 use Rattle.terms.specs.Sums.{total_of}
 use Rattle.diagram.specs.Counted.{TrueRow}
-use Rattle.files.specs.declared.value.FilePerformance
-use Rattle.files.specs.declared.value.FileWeight
+use Rattle.files.specs.declared.words.FilePerformance
+use Rattle.files.specs.declared.words.FileWeight
 use Rattle.files.specs.declared.fault.Fault.{Fault}
 use Rattle.files.specs.Analyses.{AnalysedAs}
 use Rattle.files.specs.Contents.{Contents}
-use Rattle.files.specs.Drawn.{drawn}
+use Rattle.diagram.specs.Makings.{drawn}
 use Rattle.files.specs.Reading.{ContentsRead}
 use Rattle.files.specs.Reports.{report_of}
 

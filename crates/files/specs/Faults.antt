@@ -1,8 +1,10 @@
 -- Faults by layer, record and number, and the ways in which these are told.
 use Rattle.std.specs.Prelude.{ℕ, ◌+◌, ◌*◌, List, ◌++◌, ℤ, pos, neg_ℤ, Result, Ok, Err, codes, decimal}
+use Rattle.diagram.specs.declared.refusal.Refusal.{Refusal}
 use Rattle.diagram.specs.Refusals.{number_of}
 use Rattle.files.specs.declared.fault.Fault.{Fault}
 use Rattle.files.specs.declared.fault.Fault.TheVariants.{Model, Records, Letter, Body, LeftOver, Value, Refused, Room}
+use Rattle.files.specs.declared.limits.TheConstants.{NO_RECORD}
 
 -- 1 file, 2 diagram, 3 report
 abbrev pub layer_of : Fault → ℕ
@@ -15,16 +17,16 @@ layer_of (Value k) = 1
 layer_of (Refused k refusal) = 2
 layer_of Room = 3
 
--- 255 where no record is at fault
+-- the record at fault, if there is one
 abbrev pub record_of : Fault → ℕ
-record_of Model = 255
-record_of Records = 255
+record_of Model = NO_RECORD
+record_of Records = NO_RECORD
 record_of (Letter k) = k
 record_of (Body k) = k
-record_of LeftOver = 255
+record_of LeftOver = NO_RECORD
 record_of (Value k) = k
 record_of (Refused k refusal) = k
-record_of Room = 255
+record_of Room = NO_RECORD
 
 -- a refusal of the diagram keeps its number
 abbrev pub fault_number_of : Fault → ℕ

@@ -1,21 +1,20 @@
 -- What reading and analysing leave of the store that they are lent.
-use Rattle.std.specs.Prelude.{◌≡◌, ℕ, ◌-◌, ◌<◌, ◌≤◌, ◌⊎◌, List, ◌++◌, length, get_or, drop, Result, Ok, Err}
+use Rattle.std.specs.Prelude.{◌≡◌, ℕ, ◌-◌, ◌≤◌, List, ◌++◌, length, get_or, drop, Result, Ok, Err}
 use Rattle.kinds.specs.declared.performance.Performance
 use Rattle.kinds.specs.declared.weight.Weight
 use Rattle.terms.specs.declared.term.Term.{Term}
-use Rattle.terms.specs.Enumeration.{enumeration}
+use Rattle.diagram.specs.declared.limits.TheConstants.{STORE}
 use Rattle.diagram.specs.Refusals.{Asked}
-use Rattle.diagram.specs.Standing.{RowsStand}
-use Rattle.diagram.specs.Histories.{Making, drawing_of, states_of, IsPart}
-use Rattle.files.specs.declared.value.FilePerformance
-use Rattle.files.specs.declared.value.FileWeight
+use Rattle.diagram.specs.InTurn.{AllCollected, RowsLeft}
+use Rattle.diagram.specs.Histories.{Making, made}
+use Rattle.files.specs.declared.words.FilePerformance
+use Rattle.files.specs.declared.words.FileWeight
 use Rattle.files.specs.declared.fault.Fault.{Fault}
 use Rattle.files.specs.declared.fault.Fault.TheVariants.{LeftOver}
 use Rattle.files.specs.Contents.{Contents, nodes_bytes}
 use Rattle.files.specs.Faults.{record_of}
-use Rattle.files.specs.Drawn.{drawn, TakesAll}
-use Rattle.files.specs.Reading.{Counted, ContentsRead}
-use Rattle.files.specs.Analyses.{AllCollected}
+use Rattle.diagram.specs.Makings.{drawn, TakesAll}
+use Rattle.files.specs.Reading.{RecordsCounted, ContentsRead}
 
 -- how many of n nodes stand in the records before the one at fault; a file that is longer than its records has all of them
 abbrev pub nodes_before : ℕ → Fault → ℕ
@@ -26,13 +25,6 @@ module _ {P W : Type 0} (kind : Performance.Ghosts P) (weights : Weight.Ghosts W
   abbrev Terms : Type 0
   Terms = List (Term P W)
 
-  -- Of these nodes, the parts and the joined ones below n have the rows of their enumerations in their places; nothing else has changed but the
-  -- working rows and the rest of these places.
-  abbrev pub RowsLeft : ℕ → List (Making P W) → Terms → Terms → Type 0
-  RowsLeft n ms =
-      let h = drawn ms in
-      RowsStand kind weights (λ k. (k < length ms) × (IsPart h k ⊎ (k < n))) (λ k. enumeration kind weights (states_of h) (drawing_of h k))
-
   module _ (file_kind : FilePerformance.Ghosts P) (file_weights : FileWeight.Ghosts W) where
     -- The first n of some records make these nodes, and the diagram takes them. (No others: letter, count and words fix each record.)
     abbrev pub FirstNodes : List ℕ → ℕ → List (Making P W) → Type 0
@@ -40,7 +32,7 @@ module _ {P W : Type 0} (kind : Performance.Ghosts P) (weights : Weight.Ghosts W
 
     -- where n records make nodes and one of the file is at fault, the rows of the parts in the records before it are left
     abbrev pub LeftAtFault : ℕ → List ℕ → Terms → Fault → Terms → Type 0
-    LeftAtFault n records s why s' = (ms : List (Making P W)) × FirstNodes records (nodes_before n why) ms × RowsLeft 0 ms s s'
+    LeftAtFault n records s why s' = (ms : List (Making P W)) × FirstNodes records (nodes_before n why) ms × RowsLeft kind weights (drawn ms) 0 s s'
 
     module _ (bytes : List ℕ) (s s' : Terms) where
       -- at a fault of the file, what is said of the records before it; else what is said of the contents
@@ -49,17 +41,17 @@ module _ {P W : Type 0} (kind : Performance.Ghosts P) (weights : Weight.Ghosts W
       LeftBy left (Err why) = LeftAtFault (get_or bytes 0 0 - 1) (drop 1 bytes) s why s'
 
       -- all is left of a store that is too short, or if the file does not say how many records it has
-      abbrev Left : (Contents P W → Type 0) → Type 0
-      Left left =
-          Asked (3200 ≤ length s) (s' ≡ s)
-          (Asked (Counted bytes) (s' ≡ s)
+      abbrev LeftStore : (Contents P W → Type 0) → Type 0
+      LeftStore left =
+          Asked (STORE ≤ length s) (s' ≡ s)
+          (Asked (RecordsCounted bytes) (s' ≡ s)
           ((read : Result (Contents P W) Fault) × ContentsRead kind weights file_kind file_weights bytes read × LeftBy left read))
 
       -- what reading leaves: the rows of all the file's parts
       abbrev pub LeftByReading : Type 0
-      LeftByReading = Left (λ c. RowsLeft 0 c.nodes s s')
+      LeftByReading = LeftStore (λ c. RowsLeft kind weights (drawn c.nodes) 0 s s')
 
       -- what analysing leaves: the rows of all the file's nodes, or at a fault in collecting node k those of the parts and of the joined nodes below k
       abbrev pub LeftByAnalysing : Type 0
       LeftByAnalysing =
-          Left (λ c. AllCollected kind weights (drawn c.nodes) (λ why. RowsLeft (record_of why) c.nodes s s') (RowsLeft (length c.nodes) c.nodes s s'))
+          LeftStore (λ c. let h = drawn c.nodes in AllCollected kind weights h (λ k why. RowsLeft kind weights h k s s') (RowsLeft kind weights h (made h) s s'))

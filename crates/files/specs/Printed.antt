@@ -4,11 +4,7 @@ use Rattle.std.specs.Io.KnownBytes.{Appends}
 use Rattle.files.specs.declared.fault.Fault.{Fault}
 use Rattle.files.specs.Faults.{fault_text}
 use Rattle.files.specs.Listed.{Analysed}
-use Rattle.files.specs.Reports.{longest_report}
-
--- how many bytes of the input are looked at
-abbrev pub looked_at : ℕ
-looked_at = 50001
+use Rattle.files.specs.declared.limits.TheConstants.{LONGEST_REPORT}
 
 -- the report, which is first in the output; or the fault and the end of the line
 abbrev pub printed : Result ℕ Fault → List ℕ → List ℕ
@@ -18,4 +14,4 @@ printed (Err f) out = fault_text f ++ 10 ∷ []
 -- what was written grew by the answer to the model
 abbrev pub Answers : List ℕ → Option (List ℕ) → Option (List ℕ) → Type 0
 Answers model old new =
-    (out : List ℕ) × (r : Result ℕ Fault) × (out' : List ℕ) × (length out ≡ longest_report) × Analysed model out r out' × Appends old new (printed r out')
+    (out : List ℕ) × (r : Result ℕ Fault) × (out' : List ℕ) × (length out ≡ LONGEST_REPORT) × Analysed model out r out' × Appends old new (printed r out')

@@ -2,19 +2,25 @@
 use Rattle.std.specs.Prelude.{◌≡◌, ◌↔◌, ℕ, zero, suc, ◌-◌, ◌*◌, ◌≤◌, ◌⊎◌, cond, ◌==◌, List, [], ◌∷◌, ◌++◌, length, get_or, drop, Result, Ok, Err}
 use Rattle.kinds.specs.declared.performance.Performance
 use Rattle.kinds.specs.declared.weight.Weight
+use Rattle.diagram.specs.declared.limits.TheConstants.{NODES, ARMS}
 use Rattle.diagram.specs.Refusals.{Asked}
 use Rattle.diagram.specs.Histories.{Making}
-use Rattle.files.specs.declared.value.FilePerformance
-use Rattle.files.specs.declared.value.FileWeight
+use Rattle.files.specs.declared.words.FilePerformance
+use Rattle.files.specs.declared.words.FileWeight
 use Rattle.files.specs.declared.fault.Fault.{Fault}
 use Rattle.files.specs.declared.fault.Fault.TheVariants.{Records, Letter, Body, LeftOver, Value, Refused}
+use Rattle.files.specs.declared.limits.TheConstants.{FEWEST_RECORDS, RECORDS, DEMANDS, STATE_BYTES, DEMAND_BYTES}
 use Rattle.files.specs.Contents.{Contents, Ahead, part_letter, series_letter, parallel_letter, bridge_letter, demand_letter, node_bytes, demand_bytes, contents_bytes}
-use Rattle.files.specs.Drawn.{TakesAll, TakenOr}
+use Rattle.diagram.specs.Makings.{TakesAll, TakenOr}
+
+-- a file may have so many records
+abbrev pub MayBeRecords : ℕ → Type 0
+MayBeRecords n = (FEWEST_RECORDS ≤ n) × (n ≤ RECORDS)
 
 -- the number of records stands first
-abbrev pub Counted : List ℕ → Type 0
-Counted (count ∷ records) = (2 ≤ count) × (count ≤ 49)
-Counted [] = ⊥
+abbrev pub RecordsCounted : List ℕ → Type 0
+RecordsCounted (count ∷ records) = MayBeRecords count
+RecordsCounted [] = ⊥
 
 -- the letters of records that make nodes
 abbrev pub NodeLetter : ℕ → Type 0
@@ -31,12 +37,12 @@ Headed IsRight bytes = ⊥
 
 -- how many bytes such a record has after its letter and its count
 abbrev pub body_length : ℕ → ℕ → ℕ
-body_length letter count = cond (letter == part_letter) (16 * count) (cond (letter == demand_letter) (8 * count) count)
+body_length letter count = cond (letter == part_letter) (STATE_BYTES * count) (cond (letter == demand_letter) (DEMAND_BYTES * count) count)
 
 -- the count may be, and the body is all there
 abbrev pub Whole : List ℕ → Type 0
 Whole (letter ∷ count ∷ body) =
-    (letter ≡ bridge_letter → count ≡ 5) × (letter ≡ demand_letter → (1 ≤ count) × (count ≤ 16)) × (body_length letter count ≤ length body)
+    (letter ≡ bridge_letter → count ≡ ARMS) × (letter ≡ demand_letter → (1 ≤ count) × (count ≤ DEMANDS)) × (body_length letter count ≤ length body)
 Whole bytes = ⊥
 
 -- Record k is to write one value: first its letter is asked about, then whether it is whole, then whether its body writes a value. If each answer
@@ -72,12 +78,12 @@ module _ {P W : Type 0} (kind : Performance.Ghosts P) (weights : Weight.Ghosts W
 
   -- what a file says from the number of its records on: its contents, or its first fault
   abbrev pub ContentsRead : List ℕ → Answer → Type 0
-  ContentsRead bytes answer = Asked (Counted bytes) (answer ≡ Err Records) (RecordsRead (get_or bytes 0 0 - 1) [] (drop 1 bytes) answer)
+  ContentsRead bytes answer = Asked (RecordsCounted bytes) (answer ≡ Err Records) (RecordsRead (get_or bytes 0 0 - 1) [] (drop 1 bytes) answer)
 
   -- contents that a file may have
   pub record ValidContents (c : Contents P W) : Type 0 where
-    pub nodes : (1 ≤ length c.nodes) × (length c.nodes ≤ 48)
-    pub demands : (1 ≤ length c.demands) × (length c.demands ≤ 16)
+    pub nodes : (1 ≤ length c.nodes) × (length c.nodes ≤ NODES)
+    pub demands : (1 ≤ length c.demands) × (length c.demands ≤ DEMANDS)
     pub taken : TakesAll kind weights c.nodes
 
   -- a file is read as these contents exactly if it is their writing, and they are valid

@@ -5,14 +5,10 @@ use Rattle.kinds.specs.declared.weight.Weight
 use Rattle.terms.specs.declared.term.Term.{Term}
 use Rattle.terms.specs.Sums.{total_of, met_of}
 use Rattle.diagram.specs.Refusals.{Asked}
-use Rattle.files.specs.declared.value.FilePerformance
-use Rattle.files.specs.declared.value.FileWeight
+use Rattle.files.specs.declared.words.FilePerformance
+use Rattle.files.specs.declared.words.FileWeight
 use Rattle.files.specs.declared.fault.Fault.{Fault}
 use Rattle.files.specs.declared.fault.Fault.TheVariants.{Room}
-
--- no report is longer
-abbrev pub longest_report : ℕ
-longest_report = 3328
 
 -- a number in a report: decimal, without leading zeros
 abbrev pub figure : ℕ → List ℕ

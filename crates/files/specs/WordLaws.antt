@@ -7,7 +7,7 @@ use Rattle.kinds.specs.declared.word.Word.{Word}
 use Rattle.kinds.specs.declared.values.Pair.{Pair}
 use Rattle.kinds.specs.declared.values.OrOut.{OrOut}
 use Rattle.kinds.specs.declared.values.OrOut.TheVariants.{Out, Working}
-use Rattle.files.specs.Words.{out_high, out_low}
+use Rattle.files.specs.OutWords.{out_high, out_low}
 
 module _ {Of : Type 0} where
   pub word_fits : (v : Word Of) → number v < 2 ^ 32

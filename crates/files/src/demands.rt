@@ -1,53 +1,79 @@
-// The demands of a file: its last record.
-ghost use Rattle.std.specs.Prelude.{◌≡◌, ◌↔◌, ◌≤◌, ◌++◌, IsTrue, List, length, flat_map, IfSome, IfNone, Result, Ok, Err};
-ghost use Rattle.files.specs.Contents.{performance_bytes};
-ghost use Rattle.files.specs.Steps.{ManyAhead, DemandsHandedOn};
+//! The demands of a file: its last record.
+ghost use Rattle.std.specs.Prelude.{◌↔◌, ◌*◌, ◌≤◌, IsTrue, length, IfSome, IfNone};
+ghost use Rattle.files.specs.Contents.{performance_bytes, DemandAt, NoDemandAt};
+ghost use Rattle.files.specs.Analysing.{DemandsRead, ManyAhead};
 
 use crate::fault::Fault;
 use crate::front::performance;
-use crate::value::FilePerformance;
+use crate::limits::{DEMAND_BYTES, DEMANDS};
+use crate::words::FilePerformance;
+use std::marker::PhantomData;
 
-// What follows so many performances.
-fn after_performances<'a, P: FilePerformance>(count: usize, bytes: &'a [u8]) -> Option<&'a [u8]>
-    ensures some { IfSome result (λ rest. (demands : List P) × (length demands ≡ count) × (bytes.now ≡ flat_map (performance_bytes P.FilePerformance) demands ++ rest.now)) }
-    ensures none { IfNone result (¬ ManyAhead (performance_bytes P.FilePerformance) count bytes.now) }
-{
-    let mut rest = bytes;
-    for _ in 0..count {
-        let Some((_, after)) = performance::<P>(rest) else {
-            return None;
-        };
-        rest = after;
-    }
-    Some(rest)
+/// The demands of a file, as its last record writes them: each in DEMAND_BYTES bytes.
+#[derive(Drop)]
+pub struct Demands<'a, P> {
+    bytes: &'a [u8],
+    of: PhantomData<P>,
 }
 
-// The bytes of the demands, which end the file; k is the number of the record.
-pub(crate) fn demands<'a, P: FilePerformance>(k: u8, bytes: &'a [u8]) -> Result<&'a [u8], Fault>
-    ensures { DemandsHandedOn P.FilePerformance (λ x. x.now) k bytes.now result }
-{
-    let [letter, count, body @ ..] = bytes else {
-        return Err(Fault::Letter(k));
-    };
-    if *letter != b'Q' {
-        return Err(Fault::Letter(k));
+impl<'a, P: FilePerformance> Demands<'a, P> {
+    /// Demand i, from 0, or None past the last.
+    pub fn get(&self, i: usize) -> Option<P>
+        ensures some { IfSome result (DemandAt P.FilePerformance self.now.bytes.now i) }
+        ensures none { IfNone result (NoDemandAt P.FilePerformance self.now.bytes.now i) }
+    {
+        if i >= self.bytes.len() / DEMAND_BYTES {
+            return None;
+        }
+        let (demand, _) = performance(&self.bytes[DEMAND_BYTES * i..])?;
+        Some(demand)
     }
-    let count = usize::from(*count);
-    if !may_be_demands(count) || body.len() < 8 * count {
-        return Err(Fault::Body(k));
+
+    /// The demands that end the file; k is the number of their record.
+    pub(crate) fn read(k: u8, bytes: &'a [u8]) -> Result<Self, Fault>
+        ensures { DemandsRead P.FilePerformance k bytes.now result }
+    {
+        let [letter, count, body @ ..] = bytes else {
+            return Err(Fault::Letter(k));
+        };
+        if *letter != b'Q' {
+            return Err(Fault::Letter(k));
+        }
+        let count = usize::from(*count);
+        if !may_be_demands(count) || body.len() < DEMAND_BYTES * count {
+            return Err(Fault::Body(k));
+        }
+        let demands = Demands {
+            bytes: body,
+            of: PhantomData,
+        };
+        if !demands.begin_with(count) {
+            return Err(Fault::Value(k));
+        }
+        if body.len() > DEMAND_BYTES * count {
+            return Err(Fault::LeftOver);
+        }
+        Ok(demands)
     }
-    let Some(rest) = after_performances::<P>(count, body) else {
-        return Err(Fault::Value(k));
-    };
-    if !rest.is_empty() {
-        return Err(Fault::LeftOver);
+
+    // Are the first ones, so many, all there?
+    fn begin_with(&self, count: usize) -> bool
+        requires { DEMAND_BYTES * count ≤ length self.now.bytes.now }
+        ensures { IsTrue result
+            ↔ ManyAhead (performance_bytes P.FilePerformance) count self.now.bytes.now }
+    {
+        for i in 0..count {
+            let Some(_) = self.get(i) else {
+                return false;
+            };
+        }
+        true
     }
-    Ok(body)
 }
 
 // May a file have so many demands?
 fn may_be_demands(n: usize) -> bool
-    ensures { IsTrue result ↔ ((1 ≤ n) × (n ≤ 16)) }
+    ensures { IsTrue result ↔ ((1 ≤ n) × (n ≤ DEMANDS)) }
 {
-    (1..=16).contains(&n)
+    (1..=DEMANDS).contains(&n)
 }

@@ -1,33 +1,35 @@
-// Why there is no report.
+//! Why there is no report.
 ghost use Rattle.std.specs.Prelude.{◌≡◌, Some, pos, neg_ℤ};
 ghost use Rattle.files.specs.Faults.{layer_of, record_of, fault_number_of, packed, fault_text};
 
+use crate::limits::NO_RECORD;
 use diagram::refusal::Refusal;
 use std::fmt;
 
-// The first question that was answered no; where a record is at fault, its number, from 0.
+/// The first question that was answered no; where a record is at fault, its number, from 0.
 #[derive(Clone, Copy, PartialEq, Eq, Debug)]
 pub enum Fault {
-    // Is the first byte there, and does it name a model?
+    /// 21: Is the first byte there, and does it name a model?
     Model,
-    // Is the second byte there, and does it say 2 to 49 records?
+    /// 22: Is the second byte there, and does it say FEWEST_RECORDS to RECORDS?
     Records,
-    // Are two bytes left, with a right letter for the place?
+    /// 23: Are two bytes left, with a right letter for the place?
     Letter(u8),
-    // May the count be, and is the body all there?
+    /// 24: May the count be, and is the body all there?
     Body(u8),
-    // Can the model hold each performance, weight and demand?
+    /// 26: Can the model hold each performance, weight and demand?
     Value(u8),
-    // Is the file at its end?
+    /// 25: Is the file at its end?
     LeftOver,
-    // What the diagram refused: a record, or the collecting of a node. 255 stands for no record, where a lent store is too short.
+    /// The number of the refusal: What the diagram refused, of a record or in collecting its node;
+    /// NO_RECORD where a lent store is too short.
     Refused(u8, Refusal),
-    // Has the output room for the report?
+    /// 27: Has the output room for the report?
     Room,
 }
 
 impl Fault {
-    // 1 for the file, 2 for the diagram, 3 for the report.
+    /// 1 for the file, 2 for the diagram, 3 for the report.
     pub fn layer(self) -> u8
         ensures { result ≡ layer_of self }
     {
@@ -43,16 +45,17 @@ impl Fault {
         }
     }
 
-    // The record at fault, or 255.
+    /// The record at fault, or NO_RECORD.
     pub fn record(self) -> u8
         ensures { result ≡ record_of self }
     {
         match self {
             Fault::Letter(k) | Fault::Body(k) | Fault::Value(k) | Fault::Refused(k, _) => k,
-            Fault::Model | Fault::Records | Fault::LeftOver | Fault::Room => 255,
+            Fault::Model | Fault::Records | Fault::LeftOver | Fault::Room => NO_RECORD,
         }
     }
 
+    /// The number by which a host knows the question.
     pub fn number(self) -> u8
         ensures { result ≡ fault_number_of self }
     {
@@ -68,7 +71,8 @@ impl Fault {
         }
     }
 
-    // Layer, record and number in one negative number, for C.
+    /// Layer, record and number in one negative number, for C: minus 65536 times the layer, 256
+    /// times the record, and the number.
     pub fn packed(self) -> i64
         ensures { result ≡ neg_ℤ (pos (packed self)) }
     {

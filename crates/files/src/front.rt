@@ -1,9 +1,9 @@
-// What is written at the front of some bytes, and what follows it.
+//! What is written at the front of some bytes, and what follows it.
 ghost use Rattle.std.specs.Prelude.{◌≡◌, ◌++◌, ◌<◌, length, IfSome, IfNone};
 ghost use Rattle.std.specs.Int.{w32, w64, to_be_bytes};
 ghost use Rattle.files.specs.Contents.{Ahead, performance_bytes, state_bytes};
 
-use crate::value::{FilePerformance, FileWeight};
+use crate::words::{FilePerformance, FileWeight};
 use terms::term::Term;
 
 // A number of four bytes.
@@ -30,7 +30,8 @@ pub(crate) fn word64(bytes: &[u8]) -> Option<(u64, &[u8])>
 
 // A performance that the kind has.
 pub(crate) fn performance<P: FilePerformance>(bytes: &[u8]) -> Option<(P, &[u8])>
-    ensures some { IfSome result (λ t. bytes.now ≡ performance_bytes P.FilePerformance t.0 ++ t.1.now) }
+    ensures some { IfSome result
+        (λ t. bytes.now ≡ performance_bytes P.FilePerformance t.0 ++ t.1.now) }
     ensures none { IfNone result (¬ Ahead (performance_bytes P.FilePerformance) bytes.now) }
 {
     let (high, rest) = word32(bytes)?;
@@ -40,7 +41,8 @@ pub(crate) fn performance<P: FilePerformance>(bytes: &[u8]) -> Option<(P, &[u8])
 
 // A state: a performance, and a weight that the kind has.
 pub(crate) fn state<P: FilePerformance, W: FileWeight>(bytes: &[u8]) -> Option<(Term<P, W>, &[u8])>
-    ensures some { IfSome result (λ t. bytes.now ≡ state_bytes P.FilePerformance W.FileWeight t.0 ++ t.1.now) }
+    ensures some { IfSome result
+        (λ t. bytes.now ≡ state_bytes P.FilePerformance W.FileWeight t.0 ++ t.1.now) }
     ensures none { IfNone result (¬ Ahead (state_bytes P.FilePerformance W.FileWeight) bytes.now) }
 {
     let (performance, rest) = performance(bytes)?;

@@ -1,9 +1,10 @@
-// The answer in the form that C takes; the crate `vividlawn` exports it.
+//! The answer in the form that C takes; the crate `vividlawn` exports it.
 ghost use Rattle.files.specs.Listed.{AnsweredForC};
 
 use crate::analysis::analyse;
 
-// The length of the report that is put first in the output, or minus the fault: layer, record and number in one.
+/// The length of the report that is put first in the output, or minus the fault: layer, record and
+/// number in one, as `Fault::packed` has them.
 pub fn analyse_for_c(model: &[u8], output: &mut [u8]) -> i64
     ensures { AnsweredForC model.now output.old result output.new }
 {

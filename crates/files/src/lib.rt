@@ -1,21 +1,22 @@
-// Model files in, reports out.
+//! Model files in, reports out.
 #![tactic(auto)]
 
 pub mod analysis;
-mod collect;
-mod demands;
+pub mod demands;
 pub mod fault;
 mod front;
 pub mod host;
-pub mod model;
-mod node;
+pub mod limits;
+pub mod model_file;
+mod models;
+mod named_words;
 mod nodes;
 mod page;
 pub mod read;
+mod record;
 mod report;
 mod states;
 #[cfg(test)]
 mod tests;
 pub mod theorems;
-pub mod value;
-mod values;
+pub mod words;

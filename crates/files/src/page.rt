@@ -1,9 +1,9 @@
-// A page of text: the report, before it is known to fit.
+//! A page of text: the report, before it is known to fit.
 ghost use Rattle.std.specs.Prelude.{◌≡◌, ◌+◌, ◌*◌, ◌<◌, ◌≤◌, [], ◌∷◌, length};
-ghost use Rattle.files.specs.Reports.{longest_report, figure, need_line, term_line};
+ghost use Rattle.files.specs.Reports.{figure, need_line, term_line};
 ghost use Rattle.files.specs.Pages.{written, Wrote, Copied};
 
-use crate::analysis::LONGEST_REPORT;
+use crate::limits::{LONGEST_REPORT, NEED_LINE, TERM_LINE};
 
 #[derive(Clone, Copy)]
 pub(crate) struct Page {
@@ -23,7 +23,7 @@ impl Page {
     }
 
     fn push(&mut self, b: u8)
-        requires { self.now.len < longest_report }
+        requires { self.now.len < LONGEST_REPORT }
         ensures wrote { Wrote self.old (b ∷ []) self.new }
     {
         self.bytes[self.len] = b;
@@ -31,7 +31,7 @@ impl Page {
     }
 
     fn text(&mut self, t: &[u8])
-        requires { self.now.len + length t.now ≤ longest_report }
+        requires { self.now.len + length t.now ≤ LONGEST_REPORT }
         ensures wrote { Wrote self.old t.now self.new }
     {
         for b in t {
@@ -41,7 +41,7 @@ impl Page {
 
     // The number in decimal, without leading zeros.
     fn number(&mut self, n: u32)
-        requires { self.now.len + length (figure n) ≤ longest_report }
+        requires { self.now.len + length (figure n) ≤ LONGEST_REPORT }
         ensures wrote { Wrote self.old (figure n) self.new }
     {
         if n >= 10 {
@@ -52,7 +52,7 @@ impl Page {
 
     // A number of 32 bits has ten digits at most.
     fn figure(&mut self, n: u32)
-        requires { self.now.len + 10 ≤ longest_report }
+        requires { self.now.len + 10 ≤ LONGEST_REPORT }
         ensures wrote { Wrote self.old (figure n) self.new }
         ensures short { length (figure n) ≤ 10 }
     {
@@ -61,9 +61,9 @@ impl Page {
 
     // `need H L met M of T`
     pub(crate) fn need(&mut self, high: u32, low: u32, met: u32, all: u32)
-        requires { self.now.len + 56 ≤ longest_report }
+        requires { self.now.len + NEED_LINE ≤ LONGEST_REPORT }
         ensures wrote { Wrote self.old (need_line high low met all) self.new }
-        ensures short { length (need_line high low met all) ≤ 56 }
+        ensures short { length (need_line high low met all) ≤ NEED_LINE }
     {
         self.text(b"need ");
         self.figure(high);
@@ -78,9 +78,9 @@ impl Page {
 
     // `term H L W`
     pub(crate) fn term(&mut self, high: u32, low: u32, weight: u32)
-        requires { self.now.len + 38 ≤ longest_report }
+        requires { self.now.len + TERM_LINE ≤ LONGEST_REPORT }
         ensures wrote { Wrote self.old (term_line high low weight) self.new }
-        ensures short { length (term_line high low weight) ≤ 38 }
+        ensures short { length (term_line high low weight) ≤ TERM_LINE }
     {
         self.text(b"term ");
         self.figure(high);
@@ -93,7 +93,7 @@ impl Page {
 
     // Puts the page first in the output, if there is room, and answers its length.
     pub(crate) fn copy_to(&self, output: &mut [u8]) -> Option<usize>
-        requires { self.now.len ≤ longest_report }
+        requires { self.now.len ≤ LONGEST_REPORT }
         ensures { Copied (written self.now) output.old result output.new }
     {
         if output.len() < self.len {

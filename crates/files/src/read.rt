@@ -1,29 +1,38 @@
-// Reading: from the bytes of a model file to a diagram and its demands.
-ghost use Rattle.files.specs.Reading.{ReadsBack, ReadsOneWay};
+//! Reading: from the bytes of a model file to a diagram and its demands.
+ghost use Rattle.std.specs.Prelude.{◌↔◌, IsTrue};
+ghost use Rattle.files.specs.Reading.{MayBeRecords, ReadsBack, ReadsOneWay};
 ghost use Rattle.files.specs.Left.{LeftByReading};
-ghost use Rattle.files.specs.Models.{ReadInto};
+ghost use Rattle.files.specs.ModelFiles.{ReadInto};
 
-use crate::demands::demands;
+use crate::demands::Demands;
 use crate::fault::Fault;
-use crate::model::Model;
+use crate::limits::{FEWEST_RECORDS, NO_RECORD, RECORDS, ROOM};
+use crate::model_file::ModelFile;
 use crate::nodes::draw_nodes;
-use crate::value::{FilePerformance, FileWeight};
+use crate::words::{FilePerformance, FileWeight};
 use diagram::diagram::Diagram;
 use kinds::performance::Performance;
 use kinds::weight::Weight;
 use terms::term::Term;
 
-// Reads a model file from its second byte on, the number of records: the first names the model,
-// which the caller has chosen. The diagram works in the store, which has the rows of the parts
-// afterwards; at a fault, of the parts in the records before it. The states of a record are put into
-// the room first, and the room is free afterwards.
+/// Reads a model file from its second byte on, the number of records: the first names the model,
+/// which the caller has chosen.
+///
+/// The diagram works in the store, which has the rows of the parts afterwards; at a fault, of the
+/// parts in the records before it. The states of a record are put into the room first, and the
+/// room is free afterwards.
+///
+/// Faults, in this order: a store that is too short; the number of records; then record by record
+/// its letter, its body, its values, and what the diagram refuses; and bytes after the last one.
 pub fn read<'a, P: Performance + FilePerformance, W: Weight + FileWeight>(
     bytes: &'a [u8],
     store: &mut [Term<P, W>],
-    room: &mut [Term<P, W>; 255],
-) -> Result<Model<'a, P, W>, Fault>
-    ensures read { ReadInto P.Performance W.Weight P.FilePerformance W.FileWeight bytes.now store.old result store.new }
-    ensures left { LeftByReading P.Performance W.Weight P.FilePerformance W.FileWeight bytes.now store.old store.new }
+    room: &mut [Term<P, W>; ROOM],
+) -> Result<ModelFile<'a, P, W>, Fault>
+    ensures read { ReadInto P.Performance W.Weight P.FilePerformance W.FileWeight
+        bytes.now store.old result store.new }
+    ensures left { LeftByReading P.Performance W.Weight P.FilePerformance W.FileWeight
+        bytes.now store.old store.new }
     ensures reads_back { ReadsBack P.Performance W.Weight P.FilePerformance W.FileWeight }
     ensures reads_one_way { ReadsOneWay P.Performance W.Weight P.FilePerformance W.FileWeight }
 {
@@ -40,27 +49,33 @@ fn reads_what_is_written<P: Performance + FilePerformance, W: Weight + FileWeigh
 fn read_contents<'a, P: Performance + FilePerformance, W: Weight + FileWeight>(
     bytes: &'a [u8],
     store: &mut [Term<P, W>],
-    room: &mut [Term<P, W>; 255],
-) -> Result<Model<'a, P, W>, Fault>
-    ensures read { ReadInto P.Performance W.Weight P.FilePerformance W.FileWeight bytes.now store.old result store.new }
-    ensures left { LeftByReading P.Performance W.Weight P.FilePerformance W.FileWeight bytes.now store.old store.new }
+    room: &mut [Term<P, W>; ROOM],
+) -> Result<ModelFile<'a, P, W>, Fault>
+    ensures read { ReadInto P.Performance W.Weight P.FilePerformance W.FileWeight
+        bytes.now store.old result store.new }
+    ensures left { LeftByReading P.Performance W.Weight P.FilePerformance W.FileWeight
+        bytes.now store.old store.new }
 {
-    let mut diagram = match Diagram::new(store) {
-        Ok(diagram) => diagram,
-        Err(refusal) => return Err(Fault::Refused(255, refusal)),
-    };
+    let mut diagram = Diagram::new(store).map_err(|refusal| Fault::Refused(NO_RECORD, refusal))?;
     let [count, records @ ..] = bytes else {
         return Err(Fault::Records);
     };
-    if *count < 2 || *count > 49 {
+    if !may_be_records(usize::from(*count)) {
         return Err(Fault::Records);
     }
     let nodes = *count - 1;
     let last = draw_nodes(nodes, records, &mut diagram, store, room)?;
-    let demands = demands::<P>(nodes, last)?;
-    Ok(Model {
+    let demands = Demands::read(nodes, last)?;
+    Ok(ModelFile {
         diagram,
         nodes,
         demands,
     })
+}
+
+// May a file have so many records?
+fn may_be_records(n: usize) -> bool
+    ensures { IsTrue result ↔ MayBeRecords n }
+{
+    (FEWEST_RECORDS..=RECORDS).contains(&n)
 }

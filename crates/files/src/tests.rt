@@ -209,8 +209,9 @@ fn the_first_no_is_told(rt: HostRuntime) {
     }
 }
 
-// A number of records, what is put after it, and the length of the report; the largest file, of 49,380 bytes, is the last. In the longest report
-// each figure has ten digits, so that each of the 16 needs takes 56 bytes and each of the 64 terms 38: 3,328 in all.
+// A number of records, what is put after it, and the length of the report; the largest file, of
+// 49,380 bytes, is the last. In the longest report each figure has ten digits, so that each of the
+// 16 needs takes 56 bytes and each of the 64 terms 38: 3,328 in all.
 #[test]
 fn what_is_no_more_than_the_most_is_accepted(rt: HostRuntime) {
     let mut output = [0; 3328];
@@ -242,7 +243,8 @@ fn what_is_no_more_than_the_most_is_accepted(rt: HostRuntime) {
     assert_eq!(rt; analyse(longest.written(), &mut short), Err(Fault::Room));
 }
 
-// A performance, and the first and the last model that hold it; a weight of 32 bits, and one past them.
+// A performance, and the first and the last model that hold it; a weight of 32 bits, and one past
+// them.
 #[test]
 fn each_model_holds_what_it_can_write(rt: HostRuntime) {
     let mut output = [0; 100];
@@ -312,7 +314,8 @@ term 0 4 20
 term 0 4294967295 6
 ";
 
-// A model, two states of each of two parts, how they are joined, and two demands. The reports come one after the other.
+// A model, two states of each of two parts, how they are joined, and two demands. The reports come
+// one after the other.
 #[test]
 fn each_model_answers_as_its_kind(rt: HostRuntime) {
     let mut output = [0; 1000];

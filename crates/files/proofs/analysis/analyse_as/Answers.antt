@@ -9,54 +9,48 @@ returns-in_err-model-clause-analysed g c =
     stops_reading g.P.Performance g.W.Weight g.P.FilePerformance g.W.FileWeight c.args.bytes.now c.args.store.now c.read.new.store c.args.output.now c.from_residual.result c.args.output.now
     c.in_err-model.field-0.0 c.in_err-model.ensures.read (record { answer = passed_on c.from_residual.ensures.1; output = refl })
 
-pub collect_nodes-requires : goal.collect_nodes-requires
-collect_nodes-requires g c = c.runs_are_right.ensures.answers_right
+pub returns-in_err-model-clause-left : goal.returns-in_err-model-clause-left
+returns-in_err-model-clause-left g c =
+    fault_left g.P.Performance g.W.Weight g.P.FilePerformance g.W.FileWeight c.args.bytes.now c.args.store.now c.read.new.store c.in_err-model.ensures.reads_one_way c.in_err-model.field-0.0 c.in_err-model.ensures.read c.in_err-model.ensures.left
 
-pub returns-in_err-collect_nodes-clause-analysed : goal.returns-in_err-collect_nodes-clause-analysed
-returns-in_err-collect_nodes-clause-analysed g c =
+pub returns-in-Err-clause-analysed : goal.returns-in-Err-clause-analysed
+returns-in-Err-clause-analysed g c =
     stops_collecting g.P.Performance g.W.Weight g.P.FilePerformance g.W.FileWeight c.args.bytes.now c.args.store.now c.read.new.store c.in_ok-model.ensures.reads_back c.in_ok-model.model c.in_ok-model.ensures.read
-    c.args.output.now c.from_residual-in_err-collect_nodes.result c.args.output.now (left_long g.P.Performance g.W.Weight g.P.FilePerformance g.W.FileWeight c.args.bytes.now c.args.store.now c.read.new.store c.in_ok-model.ensures.left) c.collect_nodes.new.diagram c.collect_nodes.new.store
-    c.in_err-collect_nodes.field-0.0 c.in_err-collect_nodes.ensures.collected (record { answer = passed_on c.from_residual-in_err-collect_nodes.ensures.1; output = refl })
+    c.in_ok-model.ensures.left c.collect_all.result c.collect_all.new.self c.collect_all.new.store c.collect_all.ensures.in_runs c.args.output.now _ c.args.output.now
+    c.in-Err.at c.in-Err.is (record { answer = refl; output = refl })
+
+pub returns-in-Err-clause-left : goal.returns-in-Err-clause-left
+returns-in-Err-clause-left g c =
+    analysed_left g.P.Performance g.W.Weight g.P.FilePerformance g.W.FileWeight c.args.bytes.now c.args.store.now c.read.new.store c.in_ok-model.ensures.reads_back c.in_ok-model.model c.in_ok-model.ensures.read
+    c.in_ok-model.ensures.left c.collect_all.result c.collect_all.new.self c.collect_all.new.store c.collect_all.ensures.in_runs c.in_ok-model.ensures.reads_one_way
 
 pub overflow_sub-last : goal.overflow_sub-last
 overflow_sub-last g c =
     let many = nodes_read g.P.Performance g.W.Weight g.P.FilePerformance g.W.FileWeight c.args.bytes.now c.args.store.now c.read.new.store c.in_ok-model.ensures.reads_back c.in_ok-model.model c.in_ok-model.ensures.read in
     omega (arith, many)
 
-pub report-requires : goal.report-requires
-report-requires g c = c.runs_are_right.ensures.answers_right
-
-pub returns-clause-analysed : goal.returns-clause-analysed
-returns-clause-analysed g c =
+pub returns-in-Ok-clause-analysed : goal.returns-in-Ok-clause-analysed
+returns-in-Ok-clause-analysed g c =
     reports g.P.Performance g.W.Weight g.P.FilePerformance g.W.FileWeight c.args.bytes.now c.args.store.now c.read.new.store c.in_ok-model.ensures.reads_back c.in_ok-model.model c.in_ok-model.ensures.read
-    c.args.output.now c.report.result c.report.new.output (left_long g.P.Performance g.W.Weight g.P.FilePerformance g.W.FileWeight c.args.bytes.now c.args.store.now c.read.new.store c.in_ok-model.ensures.left) c.collect_nodes.new.diagram c.collect_nodes.new.store
-    c.in_ok-collect_nodes.ensures.collected c.report.ensures.reported
+    c.in_ok-model.ensures.left c.collect_all.result c.collect_all.new.self c.collect_all.new.store c.collect_all.ensures.in_runs c.args.output.now c.report.result c.report.new.output
+    c.in-Ok.is c.report.ensures.reported
 
-pub returns-in_err-model-clause-left : goal.returns-in_err-model-clause-left
-returns-in_err-model-clause-left g c =
-    fault_left g.P.Performance g.W.Weight g.P.FilePerformance g.W.FileWeight c.args.bytes.now c.args.store.now c.read.new.store c.in_err-model.ensures.reads_one_way c.in_err-model.field-0.0 c.in_err-model.ensures.read c.in_err-model.ensures.left
-
-pub returns-in_err-collect_nodes-clause-left : goal.returns-in_err-collect_nodes-clause-left
-returns-in_err-collect_nodes-clause-left g c =
+pub returns-in-Ok-clause-left : goal.returns-in-Ok-clause-left
+returns-in-Ok-clause-left g c =
     analysed_left g.P.Performance g.W.Weight g.P.FilePerformance g.W.FileWeight c.args.bytes.now c.args.store.now c.read.new.store c.in_ok-model.ensures.reads_back c.in_ok-model.model c.in_ok-model.ensures.read
-    c.in_ok-model.ensures.reads_one_way c.in_ok-model.ensures.left c.collect_nodes.new.store c.in_err-collect_nodes.ensures.left
-
-pub returns-clause-left : goal.returns-clause-left
-returns-clause-left g c =
-    analysed_left g.P.Performance g.W.Weight g.P.FilePerformance g.W.FileWeight c.args.bytes.now c.args.store.now c.read.new.store c.in_ok-model.ensures.reads_back c.in_ok-model.model c.in_ok-model.ensures.read
-    c.in_ok-model.ensures.reads_one_way c.in_ok-model.ensures.left c.collect_nodes.new.store c.in_ok-collect_nodes.ensures.left
+    c.in_ok-model.ensures.left c.collect_all.result c.collect_all.new.self c.collect_all.new.store c.collect_all.ensures.in_runs c.in_ok-model.ensures.reads_one_way
 
 pub returns-in_err-model-clause-counted : goal.returns-in_err-model-clause-counted
 returns-in_err-model-clause-counted g c =
     over_counts g.P.Performance g.W.Weight g.P.FilePerformance g.W.FileWeight (lawful_kind g.met.P.Performance) (lawful_weight g.met.W.Weight)
     c.args.store.now c.args.output.now c.from_residual.result c.args.output.now c.args.bytes.now (returns-in_err-model-clause-analysed g c)
 
-pub returns-in_err-collect_nodes-clause-counted : goal.returns-in_err-collect_nodes-clause-counted
-returns-in_err-collect_nodes-clause-counted g c =
+pub returns-in-Err-clause-counted : goal.returns-in-Err-clause-counted
+returns-in-Err-clause-counted g c =
     over_counts g.P.Performance g.W.Weight g.P.FilePerformance g.W.FileWeight (lawful_kind g.met.P.Performance) (lawful_weight g.met.W.Weight)
-    c.args.store.now c.args.output.now c.from_residual-in_err-collect_nodes.result c.args.output.now c.args.bytes.now (returns-in_err-collect_nodes-clause-analysed g c)
+    c.args.store.now c.args.output.now _ c.args.output.now c.args.bytes.now (returns-in-Err-clause-analysed g c)
 
-pub returns-clause-counted : goal.returns-clause-counted
-returns-clause-counted g c =
+pub returns-in-Ok-clause-counted : goal.returns-in-Ok-clause-counted
+returns-in-Ok-clause-counted g c =
     over_counts g.P.Performance g.W.Weight g.P.FilePerformance g.W.FileWeight (lawful_kind g.met.P.Performance) (lawful_weight g.met.W.Weight)
-    c.args.store.now c.args.output.now c.report.result c.report.new.output c.args.bytes.now (returns-clause-analysed g c)
+    c.args.store.now c.args.output.now c.report.result c.report.new.output c.args.bytes.now (returns-in-Ok-clause-analysed g c)

@@ -1,8 +1,8 @@
 -- A performance that is followed by no weight is no state.
 use Rattle.std.proofs.Common.{◌≡◌, ℕ, ◌^◌, ◌<◌, List, ◌++◌, rules, arith, sym, ◌∙◌}
 use Rattle.std.specs.Int.{w64, to_be_bytes}
-use Rattle.files.specs.declared.value.FilePerformance
-use Rattle.files.specs.declared.value.FileWeight
+use Rattle.files.specs.declared.words.FilePerformance
+use Rattle.files.specs.declared.words.FileWeight
 use Rattle.files.specs.Contents.{Ahead, performance_bytes, state_bytes}
 use Rattle.files.proofs.Bytes.{FileKind, FileWeighing, file_kind_of, file_weighing_of, performance_once, word64_once}
 use Rattle.files.proofs.front.state.Goals as goal

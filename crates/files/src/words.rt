@@ -1,20 +1,22 @@
-// Performances and weights as words of a model file.
+//! Performances and weights as words of a model file.
 ghost use Rattle.std.specs.Prelude.{◌≡◌, ℕ, ◌^◌, ◌<◌};
-ghost use Rattle.files.specs.Values.{Found};
+ghost use Rattle.files.specs.Finding.{Found};
 
-// A performance as two words.
+/// A performance as two words of 32 bits, by which it is known.
 pub trait FilePerformance: Copy {
     ghost high: { Self → ℕ };
 
     ghost low: { Self → ℕ };
 
-    // The performance that these words write, if there is one.
+    /// The performance that these words write, if there is one.
     fn of_words(first: u32, second: u32) -> Option<Self>
         ensures { Found (λ v. (high v ≡ first) × (low v ≡ second)) result };
 
+    /// The first word.
     fn high(self) -> u32
         ensures { result ≡ high self };
 
+    /// The second word.
     fn low(self) -> u32
         ensures { result ≡ low self };
 
@@ -23,14 +25,15 @@ pub trait FilePerformance: Copy {
     ghost words_tell: { (v w : Self) → high v ≡ high w → low v ≡ low w → v ≡ w };
 }
 
-// A weight as one word, which is written in eight bytes but has 32 bits.
+/// A weight as one word, which is written in eight bytes but has 32 bits.
 pub trait FileWeight: Copy {
     ghost word: { Self → ℕ };
 
-    // The weight that this word writes, if there is one.
+    /// The weight that this word writes, if there is one.
     fn of_word(written: u64) -> Option<Self>
         ensures { Found (λ w. word w ≡ written) result };
 
+    /// The word that writes the weight.
     fn word(self) -> u32
         ensures { result ≡ word self };
 

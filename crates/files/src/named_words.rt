@@ -1,10 +1,11 @@
-// The words of the named kinds and weights.
+//! The words of the named kinds and weights.
 ghost use Rattle.kinds.specs.Words.{number};
 ghost use Rattle.kinds.specs.WordLaws.{word_same};
-ghost use Rattle.files.specs.Words.{out_high, out_low};
-ghost use Rattle.files.specs.WordLaws.{word_fits, one_word_fits, one_word_tells, out_fits, out_tells, pair_fits, pair_tells};
+ghost use Rattle.files.specs.OutWords.{out_high, out_low};
+ghost use Rattle.files.specs.WordLaws.{word_fits, one_word_fits, one_word_tells};
+ghost use Rattle.files.specs.WordLaws.{out_fits, out_tells, pair_fits, pair_tells};
 
-use crate::value::{FilePerformance, FileWeight};
+use crate::words::{FilePerformance, FileWeight};
 use kinds::values::{OrOut, Pair};
 use kinds::word::Word;
 
