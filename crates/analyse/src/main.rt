@@ -1,20 +1,19 @@
-// Prints the report on the model file that is standard input, or its fault.
+//! Prints the report on the model file that is standard input, or its fault.
 #![tactic(auto)]
 
 ghost use Rattle.std.specs.Prelude.{◌≡◌, IfOk, IfSome, OnOk, take};
-ghost use Rattle.files.specs.Printed.{looked_at, Answers};
+ghost use Rattle.files.specs.Printed.{Answers};
 
-use files::analysis::{LONGEST_REPORT, analyse};
+use files::analysis::analyse;
+use files::limits::{LONGEST_REPORT, LOOKED_AT};
 use std::alloc::Global;
 use std::io;
 use std::io::{Read, Write};
 
-// How much of its input the program looks at.
-const LOOKED_AT: u64 = 50001;
-
 // The model file, as far as it is looked at.
 fn model_file<R: Read + Drop>(alloc: Global, input: R) -> io::Result<Vec<u8>>
-    ensures { IfOk result (λ model. IfSome (R.remaining input) (λ bytes. model.items ≡ take looked_at bytes)) }
+    ensures { IfOk result (λ model.
+        IfSome (R.remaining input) (λ bytes. model.items ≡ take LOOKED_AT bytes)) }
 {
     let mut model = Vec::new(alloc);
     input.take(LOOKED_AT).read_to_end(&mut model)?;
@@ -34,7 +33,8 @@ fn answer<W: Write>(model: &[u8], page: &mut W) -> io::Result<()>
 
 // The program, from its input to its page.
 fn run<R: Read + Drop, W: Write>(alloc: Global, input: R, page: &mut W) -> io::Result<()>
-    ensures { OnOk result (IfSome (R.remaining input) (λ bytes. Answers (take looked_at bytes) (W.contents page.old) (W.contents page.new))) }
+    ensures { OnOk result (IfSome (R.remaining input) (λ bytes.
+        Answers (take LOOKED_AT bytes) (W.contents page.old) (W.contents page.new))) }
 {
     let model = model_file(alloc, input)?;
     answer(&model, page)

@@ -1,4 +1,4 @@
--- What is told is the text of the reply.
+-- The text of an answer is that of the reply.
 use Rattle.std.proofs.Common.{◌≡◌, ℕ, List, [], ◌∷◌, ◌++◌, Option, Some, None, Result, Ok, Err, IfOk, decimal, ap, sym, subst, ◌∙◌, inl, inr, arith, unwrap_or}
 use Rattle.std.specs.Borrow.{Bor}
 use Rattle.std.proofs.lemmas.Str.Pattern.{IsSplitOnceResult, split_parts}
@@ -11,11 +11,11 @@ use Rattle.diagram.specs.declared.diagram.Diagram.{Diagram}
 use Rattle.diagram.specs.declared.refusal.Refusal.{Refusal}
 use Rattle.diagram.specs.Histories as histories
 use Rattle.diagram.specs.Histories.{Call, Reply, one_term, one_weight, two_weights}
-use Rattle.diagram.specs.Runs.{told, Performs}
+use Rattle.diagram.specs.Runs.{as_reply, Performs}
 use Rattle.diagram.specs.Shown.{records}
 use Rattle.calls.specs.declared.written.Written
 use Rattle.calls.specs.Numbers.{WritesNumbers}
-use Rattle.calls.specs.Played.{Told, both_told, term_told, name_of, numbers_of, reply_text, NameFirst, CallMade, CallMadeAs}
+use Rattle.calls.specs.Played.{AnswerText, weights_answer_text, term_answer_text, name_of, numbers_of, reply_text, NameFirst, CallMade, CallMadeAs}
 
 -- what follows from what an Ok says
 pub after : {A E : Type 0} {p q : A → Type 0} (r : Result A E) → ((x : A) → p x → q x) → IfOk r p → IfOk r q
@@ -23,21 +23,21 @@ after (Ok x) f h = f x h
 after (Err e) f h = tt
 
 module _ {P : Type 0} (written : Written.Ghosts P) where
-  pub number_told : (r : Result ℕ Refusal) (text : List ℕ) → Told (λ n. Some (decimal n)) r text → text ≡ reply_text written (told histories.number r)
-  number_told (Ok n) text h = h
-  number_told (Err why) text h = h
+  pub number_answer : (r : Result ℕ Refusal) (text : List ℕ) → AnswerText (λ n. Some (decimal n)) r text → text ≡ reply_text written (as_reply histories.number r)
+  number_answer (Ok n) text h = h
+  number_answer (Err why) text h = h
 
-  pub weight_told : (r : Result Parts Refusal) (text : List ℕ) → Told (λ w. Some (decimal (number w))) r text → text ≡ reply_text written (told one_weight r)
-  weight_told (Ok w) text h = h
-  weight_told (Err why) text h = h
+  pub weight_answer : (r : Result Parts Refusal) (text : List ℕ) → AnswerText (λ w. Some (decimal (number w))) r text → text ≡ reply_text written (as_reply one_weight r)
+  weight_answer (Ok w) text h = h
+  weight_answer (Err why) text h = h
 
-  pub one_told : (r : Result (Term P Parts) Refusal) (text : List ℕ) → text ≡ term_told written r → text ≡ reply_text written (told one_term r)
-  one_told (Ok t) text h = h
-  one_told (Err why) text h = h
+  pub term_answer : (r : Result (Term P Parts) Refusal) (text : List ℕ) → text ≡ term_answer_text written r → text ≡ reply_text written (as_reply one_term r)
+  term_answer (Ok t) text h = h
+  term_answer (Err why) text h = h
 
-  pub two_told : (r : Result (Parts × Parts) Refusal) (text : List ℕ) → text ≡ both_told r → text ≡ reply_text written (told (λ w. two_weights w.0 w.1) r)
-  two_told (Ok x) text h = h
-  two_told (Err why) text h = h
+  pub weights_answer : (r : Result (Parts × Parts) Refusal) (text : List ℕ) → text ≡ weights_answer_text r → text ≡ reply_text written (as_reply (λ w. two_weights w.0 w.1) r)
+  weights_answer (Ok x) text h = h
+  weights_answer (Err why) text h = h
 
 -- a text is cut at its first blank, if it has one
 pub name_first : (text : List ℕ) (r : Option (Bor (List ℕ) × Bor (List ℕ))) (whole x : Bor (List ℕ) × Bor (List ℕ)) → IsSplitOnceResult 32 text r → x ≡ unwrap_or r whole → whole.0.now ≡ text → whole.1.now ≡ [] → NameFirst text x.0.now x.1.now
@@ -48,7 +48,7 @@ module _ {P : Type 0} (written : Written.Ghosts P) (kind : Performance.Ghosts P)
   abbrev Terms : Type 0
   Terms = List (Term P Parts)
 
-  -- a call that was performed, and told so
+  -- a call that was performed, and answered so
   pub called : {X E : Type 0} (name numbers : List ℕ) (d : Diagram P Parts) (s : Terms) (d' : Diagram P Parts) (s' : Terms) (call : Call P Parts) (reply : Reply P Parts)
       (r : Result X E) (text : X → List ℕ) → name ≡ name_of written call → numbers ≡ numbers_of written call → Performs kind parts call (records d) s reply (records d') s' →
       IfOk r (λ x. text x ≡ reply_text written reply) → IfOk r (λ x. CallMade written kind name numbers d s (text x) d' s')

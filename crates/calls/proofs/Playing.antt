@@ -1,5 +1,5 @@
 -- A line that is played is one call more of a run.
-use Rattle.std.proofs.Common.{◌≡◌, ◌⊎◌, ℕ, ◌+◌, ◌<◌, ◌≤◌, List, [], ◌∷◌, ◌++◌, length, take, drop, reverse, codes, Some, Result, Ok, Err, IfOk, ap, sym, subst, ◌∙◌, refl, inl, inr, arith, length-take, append-nil}
+use Rattle.std.proofs.Common.{◌≡◌, ◌⊎◌, ℕ, ◌+◌, ◌-◌, ◌<◌, ◌≤◌, List, [], ◌∷◌, ◌++◌, length, take, drop, reverse, codes, Some, Result, Ok, Err, IfOk, ap, sym, subst, ◌∙◌, refl, inl, inr, arith, length-take, append-nil}
 use Rattle.std.specs.Str.Pattern.{FindsTextPrefix}
 use Rattle.std.proofs.lemmas.List.{reverse-append, take_all, take-append-drop, drop_all}
 use Rattle.std.proofs.Math.Seq.{take-append_seam, drop-append_seam}
@@ -10,6 +10,7 @@ use Rattle.terms.specs.declared.term.Term.{Term}
 use Rattle.diagram.specs.declared.refusal.Refusal.{Refusal}
 use Rattle.diagram.specs.declared.table.Table.{Table}
 use Rattle.diagram.specs.declared.diagram.Diagram.{Diagram}
+use Rattle.diagram.specs.declared.limits.TheConstants.{ROWS, STORE}
 use Rattle.diagram.specs.Calls.{Made, Refused}
 use Rattle.diagram.specs.Refusals.{Asked}
 use Rattle.diagram.specs.Histories.{Call, adding, joining, bridging, restating, collecting, asking, Reply, Entry, History}
@@ -20,11 +21,11 @@ use Rattle.calls.specs.Played.{AsksFor, CallMadeAs, LineSays, LinePlayed, LinesS
 
 -- what a line asks after `short`, with one term too few, or all that it asks
 abbrev pub Lent : List ℕ → List ℕ → ℕ → Type 0
-Lent asked text len = ((asked ≡ codes "short " ++ text) × (len ≡ 3199)) ⊎ ((text ≡ asked) × (len ≡ 3200))
+Lent asked text len = ((asked ≡ codes "short " ++ text) × (len ≡ STORE - 1)) ⊎ ((text ≡ asked) × (len ≡ STORE))
 
 -- too few terms are lent, and so the first question has the answer no
-denied : {T A rest : Type 0} {t t' : Table} {s s' : List T} {r : Result A Refusal} {why : Refusal} → length s < 3200 → Asked (3200 ≤ length s) (Refused t s r t' s' why) rest → Refused t s r t' s' why
-denied few (inl x) = let enough = x.0 in absurd (omega (arith, few, enough))
+denied : {T A rest : Type 0} {t t' : Table} {s s' : List T} {r : Result A Refusal} {why : Refusal} → length s < STORE → Asked (STORE ≤ length s) (Refused t s r t' s' why) rest → Refused t s r t' s' why
+denied {s = s} few (inl x) = let enough : STORE ≤ length s = x.0 in absurd (omega (arith, few, enough))
 denied few (inr x) = x.1
 
 -- a prefix that was found
@@ -36,11 +37,11 @@ module _ {P : Type 0} (written : Written.Ghosts P) (kind : Performance.Ghosts P)
   Terms = List (Term P Parts)
 
   asks : (asked text : List ℕ) (len : ℕ) (call : Call P Parts) → Lent asked text len → AsksFor written text call →
-      ((rest : List ℕ) × (asked ≡ codes "short " ++ rest) × (len ≡ 3199) × AsksFor written rest call) ⊎ ((len ≡ 3200) × AsksFor written asked call)
+      ((rest : List ℕ) × (asked ≡ codes "short " ++ rest) × (len ≡ STORE - 1) × AsksFor written rest call) ⊎ ((len ≡ STORE) × AsksFor written asked call)
   asks asked text len call (inl (is, few)) x = inl (text, is, few, x)
   asks asked text len call (inr (is, all)) x = inr (all, subst (λ z. AsksFor written z call) is x)
 
-  -- the call of a line is made, and told what the line wants
+  -- the call of a line is made, and answered as the line wants
   pub line_played : {E : Type 0} (line asked wanted text said : List ℕ) (len : ℕ) (d d' : Diagram P Parts) (s left s' : Terms) (r : Result (Unit {0}) E) →
       line ≡ asked ++ (codes " = " ++ wanted) → Lent asked text len → len ≤ length s → CallMadeAs written kind text d (take len s) said d' left →
       length left ≡ len → s' ≡ left ++ drop len s → IfOk r (λ x. said ≡ wanted) → IfOk r (λ x. LinePlayed written kind line d s d' s')
@@ -56,7 +57,7 @@ module _ {P : Type 0} (written : Written.Ghosts P) (kind : Performance.Ghosts P)
       )
 
   -- a call that is lent too few terms leaves them
-  left_alone : (call : Call P Parts) (t t' : Table) (s s' : Terms) (reply : Reply P Parts) → length s < 3200 → Performs kind parts call t s reply t' s' → s' ≡ s
+  left_alone : (call : Call P Parts) (t t' : Table) (s s' : Terms) (reply : Reply P Parts) → length s < STORE → Performs kind parts call t s reply t' s' → s' ≡ s
   left_alone (adding states) t t' s s' reply few (r, x, is) = (denied few x).store
   left_alone (joining way children) t t' s s' reply few (r, x, same, is) = same
   left_alone (bridging a b c d e) t t' s s' reply few (r, x, same, is) = same
@@ -68,8 +69,8 @@ module _ {P : Type 0} (written : Written.Ghosts P) (kind : Performance.Ghosts P)
   entry_of e n is = λ i. record { call = e.call; lent = is i; reply = e.reply }
 
   -- a line that is played is one entry more
-  run_on : (h : History P Parts) (d d' : Diagram P Parts) (s s' : Terms) (e : Entry P Parts) → Run kind parts h d s → length s ≡ 3200 → length s' ≡ 3200 →
-      (e.lent ≡ 3199) ⊎ (e.lent ≡ 3200) → Performs kind parts e.call (records d) (take e.lent s) e.reply (records d') (take e.lent s') → drop e.lent s' ≡ drop e.lent s → Run kind parts (e ∷ h) d' s'
+  run_on : (h : History P Parts) (d d' : Diagram P Parts) (s s' : Terms) (e : Entry P Parts) → Run kind parts h d s → length s ≡ STORE → length s' ≡ STORE →
+      (e.lent ≡ STORE - 1) ⊎ (e.lent ≡ STORE) → Performs kind parts e.call (records d) (take e.lent s) e.reply (records d') (take e.lent s') → drop e.lent s' ≡ drop e.lent s → Run kind parts (e ∷ h) d' s'
   run_on h d d' s s' e run long long' (inl few) performs rest =
       let lent : length (take e.lent s) ≡ e.lent = simp length-take (omega (arith, few, long)) in
       let same = left_alone e.call (records d) (records d') (take e.lent s) (take e.lent s') e.reply (omega (arith, lent, few)) performs in
@@ -81,14 +82,14 @@ module _ {P : Type 0} (written : Written.Ghosts P) (kind : Performance.Ghosts P)
       let whole : take e.lent s ≡ s = take_all e.lent s (omega (arith, all, long)) in
       let whole' : take e.lent s' ≡ s' = take_all e.lent s' (omega (arith, all, long')) in
       subst (λ (z : Terms). Run kind parts (e ∷ h) d' z) whole'
-      (subst (λ (z : Entry P Parts). Run kind parts (z ∷ h) d' (take e.lent s')) (entry_of e (length (take e.lent s)) lent) (next e.call (take e.lent s) (take e.lent s') e.reply run (omega (arith, lent, all)) (ap (take 3072) whole) performs))
+      (subst (λ (z : Entry P Parts). Run kind parts (z ∷ h) d' (take e.lent s')) (entry_of e (length (take e.lent s)) lent) (next e.call (take e.lent s) (take e.lent s') e.reply run (omega (arith, lent, all)) (ap (take ROWS) whole) performs))
 
-  -- these lines are played, over a store of 3,200 terms
+  -- these lines are played, over a store of as many terms as a diagram needs
   pub record PlayedSoFar (lines : List (List ℕ)) (d : Diagram P Parts) (s : Terms) : Type 0 where
     pub entries : List (Entry P Parts)
     pub say : LinesSay written lines entries
     pub run : Run kind parts (reverse entries) d s
-    pub long : length s ≡ 3200
+    pub long : length s ≡ STORE
 
   -- each line has an entry
   pub as_many : (lines : List (List ℕ)) (entries : List (Entry P Parts)) → LinesSay written lines entries → length lines ≡ length entries
@@ -103,11 +104,11 @@ module _ {P : Type 0} (written : Written.Ghosts P) (kind : Performance.Ghosts P)
   say_more (l ∷ lines) [] line e say says = absurd say
   say_more (l ∷ lines) (f ∷ entries) line e say says = (say.0, say_more lines entries line e say.1 says)
 
-  lent_of : (line : List ℕ) (e : Entry P Parts) → LineSays written line e → (e.lent ≡ 3199) ⊎ (e.lent ≡ 3200)
+  lent_of : (line : List ℕ) (e : Entry P Parts) → LineSays written line e → (e.lent ≡ STORE - 1) ⊎ (e.lent ≡ STORE)
   lent_of line e (asked, cut, inl (rest, is, few, asks)) = inl few
   lent_of line e (asked, cut, inr (all, asks)) = inr all
 
-  pub none_played : (d : Diagram P Parts) (s : Terms) → Made records s (Ok d) → length s ≡ 3200 → PlayedSoFar [] d s
+  pub none_played : (d : Diagram P Parts) (s : Terms) → Made records s (Ok d) → length s ≡ STORE → PlayedSoFar [] d s
   none_played d s made long = record { entries = []; say = tt; run = start made; long = long }
 
   pub one_played : (lines all : List (List ℕ)) (line : List ℕ) (d d' : Diagram P Parts) (s s' : Terms) → PlayedSoFar lines d s → LinePlayed written kind line d s d' s' → length s' ≡ length s → all ≡ lines ++ (line ∷ []) → PlayedSoFar all d' s'

@@ -6,7 +6,7 @@ use Rattle.std.proofs.Common.{arith}
 use Rattle.std.proofs.Math.Nat.{min_comm, max_comm}
 use Rattle.std.proofs.lemmas.Cmp.{nat_cmp_total, tied_itself}
 use Rattle.kinds.specs.WordLaws.{nat_equal, min_assoc}
-use Rattle.calls.specs.Grades.{grade_compared, worse, better}
+use Rattle.calls.specs.GradeKind.{grade_compared, worse, better}
 use Rattle.calls.specs.declared.grade.Grade.{Grade}
 
 same : (v w : Grade) → v.number ≡ w.number → v ≡ w

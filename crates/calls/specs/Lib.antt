@@ -1,6 +1,6 @@
 pub mod GradeLaws
-pub mod Grades
+pub mod GradeKind
 pub mod Numbers
 pub mod Played
-pub mod Words
+pub mod Written
 pub mod Sequences

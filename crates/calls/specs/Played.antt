@@ -1,5 +1,5 @@
 -- Sequences of calls as text: which call a line asks for, what it is answered, and that the calls are made on one diagram.
-use Rattle.std.specs.Prelude.{◌≡◌, ◌⊎◌, ℕ, ◌≤◌, List, [], ◌∷◌, ◌++◌, length, take, drop, reverse, flat_map, codes, decimal, Option, IfSome, Result, Ok, Err}
+use Rattle.std.specs.Prelude.{◌≡◌, ◌⊎◌, ℕ, ◌-◌, ◌≤◌, List, [], ◌∷◌, ◌++◌, length, take, drop, reverse, flat_map, codes, decimal, Option, IfSome, Result, Ok, Err}
 use Rattle.std.specs.Str.Lines.{lines}
 use Rattle.kinds.specs.Named.{Parts}
 use Rattle.kinds.specs.Words.{number}
@@ -9,6 +9,7 @@ use Rattle.terms.specs.declared.term.Term.{Term}
 use Rattle.terms.specs.declared.term.Way.TheVariants.{Series, Parallel}
 use Rattle.diagram.specs.declared.refusal.Refusal.{Refusal}
 use Rattle.diagram.specs.declared.diagram.Diagram.{Diagram}
+use Rattle.diagram.specs.declared.limits.TheConstants.{STORE}
 use Rattle.diagram.specs.Refusals.{number_of}
 use Rattle.diagram.specs.Histories as histories
 use Rattle.diagram.specs.Histories.{size, term, total, availability, Call, adding, joining, bridging, restating, collecting, asking, one_term, one_weight, two_weights, Reply, Entry}
@@ -17,21 +18,21 @@ use Rattle.diagram.specs.Shown.{records}
 use Rattle.calls.specs.declared.written.Written
 use Rattle.calls.specs.Numbers.{WritesNumbers}
 
--- a refusal is told by its number
+-- the text of a refusal: its number
 abbrev pub refusal_text : Refusal → List ℕ
 refusal_text why = codes "no " ++ decimal (number_of why)
 
--- what is answered, as it prints itself, or its refusal
-abbrev pub Told : {A : Type 0} → (A → Option (List ℕ)) → Result A Refusal → List ℕ → Type 0
-Told output (Ok a) text = IfSome (output a) (λ printed. text ≡ printed)
-Told output (Err why) text = text ≡ refusal_text why
+-- the text of an answer as it prints itself, or of its refusal
+abbrev pub AnswerText : {A : Type 0} → (A → Option (List ℕ)) → Result A Refusal → List ℕ → Type 0
+AnswerText output (Ok a) text = IfSome (output a) (λ printed. text ≡ printed)
+AnswerText output (Err why) text = text ≡ refusal_text why
 
-abbrev pub both_text : Parts → Parts → List ℕ
-both_text met all = decimal (number met) ++ (codes " " ++ decimal (number all))
+abbrev pub weights_text : Parts → Parts → List ℕ
+weights_text met all = decimal (number met) ++ (codes " " ++ decimal (number all))
 
-abbrev pub both_told : Result (Parts × Parts) Refusal → List ℕ
-both_told (Ok x) = both_text x.0 x.1
-both_told (Err why) = refusal_text why
+abbrev pub weights_answer_text : Result (Parts × Parts) Refusal → List ℕ
+weights_answer_text (Ok x) = weights_text x.0 x.1
+weights_answer_text (Err why) = refusal_text why
 
 -- the name ends at the first blank, or with the text
 abbrev pub NameFirst : List ℕ → List ℕ → List ℕ → Type 0
@@ -47,9 +48,9 @@ module _ {P : Type 0} (written : Written.Ghosts P) where
       let words = written.words t.performance in
       decimal words.0 ++ (codes " " ++ (decimal words.1 ++ (codes " " ++ decimal (number t.weight))))
 
-  abbrev pub term_told : Result (Term P Parts) Refusal → List ℕ
-  term_told (Ok t) = term_text t
-  term_told (Err why) = refusal_text why
+  abbrev pub term_answer_text : Result (Term P Parts) Refusal → List ℕ
+  term_answer_text (Ok t) = term_text t
+  term_answer_text (Err why) = refusal_text why
 
   -- the name of a call, and the numbers that stand after it
   abbrev pub name_of : Call P Parts → List ℕ
@@ -78,18 +79,18 @@ module _ {P : Type 0} (written : Written.Ghosts P) where
   reply_text (Ok (histories.number n)) = decimal n
   reply_text (Ok (one_term t)) = term_text t
   reply_text (Ok (one_weight w)) = decimal (number w)
-  reply_text (Ok (two_weights met all)) = both_text met all
+  reply_text (Ok (two_weights met all)) = weights_text met all
   reply_text (Err why) = refusal_text why
 
   -- a text asks for this call
   abbrev pub AsksFor : List ℕ → Call P Parts → Type 0
   AsksFor text call = (rest : List ℕ) × NameFirst text (name_of call) rest × WritesNumbers rest (numbers_of call)
 
-  -- a line asks for the call of this entry, and says after it what is to be answered; where `short` stands first, one term too few is lent
+  -- a line asks for the call of this entry, and says its reply; after `short` one term too few is lent
   abbrev pub LineSays : List ℕ → Entry P Parts → Type 0
   LineSays line e =
       (asked : List ℕ) × (line ≡ asked ++ (codes " = " ++ reply_text e.reply))
-      × (((rest : List ℕ) × (asked ≡ codes "short " ++ rest) × (e.lent ≡ 3199) × AsksFor rest e.call) ⊎ ((e.lent ≡ 3200) × AsksFor asked e.call))
+      × (((rest : List ℕ) × (asked ≡ codes "short " ++ rest) × (e.lent ≡ STORE - 1) × AsksFor rest e.call) ⊎ ((e.lent ≡ STORE) × AsksFor asked e.call))
 
   -- each line an entry, the oldest first
   abbrev pub LinesSay : List (List ℕ) → List (Entry P Parts) → Type 0
@@ -101,7 +102,7 @@ module _ {P : Type 0} (written : Written.Ghosts P) where
     abbrev Terms : Type 0
     Terms = List (Term P Parts)
 
-    -- the diagram is called by this name, with these numbers, and told this text
+    -- the diagram is called by this name, with these numbers, and answers this text
     abbrev pub CallMade : List ℕ → List ℕ → Diagram P Parts → Terms → List ℕ → Diagram P Parts → Terms → Type 0
     CallMade name numbers d s said d' s' =
         (call : Call P Parts) × (reply : Reply P Parts) × (name ≡ name_of call) × (numbers ≡ numbers_of call) × (said ≡ reply_text reply)

@@ -1,8 +1,10 @@
-// Reads sequences of a diagram's calls from standard input, makes each call, and compares what it is answered with what stands
-// after it. tools/other/sequences.py tells the form.
+//! Reads sequences of a diagram's calls from standard input, makes each call, and compares what it
+//! is answered with what stands after it.
+//!
+//! tools/other/sequences.py tells the form.
 #![tactic(auto)]
 
-ghost use Rattle.std.specs.Prelude.{◌≡◌, IfOk};
+ghost use Rattle.std.specs.Prelude.{IfOk};
 ghost use Rattle.calls.specs.Played.{Played};
 ghost use Rattle.calls.specs.Sequences.{Sequence};
 
@@ -13,14 +15,19 @@ use std::io;
 use written::Written;
 
 mod grade;
-mod grades;
+mod grade_kind;
 mod numbers;
 mod play;
 mod written;
 
 // One sequence: the name of its kind, and then a call a line. Answers how many calls.
 fn play_one(rt: &HostRuntime, sequence: &str) -> anyhow::Result<usize>
-    ensures { IfOk result (λ n. Sequence (λ calls. Played ⟦<Flow as Written>⟧ ⟦<Flow as Performance>⟧ calls n) (λ calls. Played ⟦<FirstFault as Written>⟧ ⟦<FirstFault as Performance>⟧ calls n) (λ calls. Played ⟦<OrOut<Delay> as Written>⟧ ⟦<OrOut<Delay> as Performance>⟧ calls n) (λ calls. Played ⟦<OrOut<FirstFault> as Written>⟧ ⟦<OrOut<FirstFault> as Performance>⟧ calls n) (λ calls. Played ⟦<Grade as Written>⟧ ⟦<Grade as Performance>⟧ calls n) sequence.now (n ≡ 0)) }
+    ensures { IfOk result (Sequence
+        (Played ⟦<Flow as Written>⟧ ⟦<Flow as Performance>⟧)
+        (Played ⟦<FirstFault as Written>⟧ ⟦<FirstFault as Performance>⟧)
+        (Played ⟦<OrOut<Delay> as Written>⟧ ⟦<OrOut<Delay> as Performance>⟧)
+        (Played ⟦<OrOut<FirstFault> as Written>⟧ ⟦<OrOut<FirstFault> as Performance>⟧)
+        (Played ⟦<Grade as Written>⟧ ⟦<Grade as Performance>⟧) sequence.now) }
 {
     let Some((kind, calls)) = sequence.split_once('\n') else {
         return Ok(0);

@@ -1,4 +1,4 @@
-// The numbers that stand after a call's name, and what they write.
+//! The numbers that stand after a call's name, and what they write.
 ghost use Rattle.std.specs.Prelude.{◌≡◌, IfOk, flat_map};
 ghost use Rattle.calls.specs.Numbers.{WritesNumbers};
 ghost use Rattle.calls.specs.Played.{state_numbers};

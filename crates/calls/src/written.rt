@@ -1,23 +1,26 @@
-// How the sequences write a performance: as two words, like a model file.
+//! How the sequences write a performance: as two words, like a model file.
 ghost use Rattle.std.specs.Prelude.{◌≡◌, ℕ, ◌↔◌, IsSome, IfSome};
-ghost use Rattle.calls.specs.Words.{number_words, AreNumber, number_or_out_words, AreNumberOrOut, grade_words, AreGrade};
+ghost use Rattle.calls.specs.Written.{number_words, AreNumber, grade_words, AreGrade};
+ghost use Rattle.calls.specs.Written.{number_or_out_words, AreNumberOrOut};
 
 use crate::grade::Grade;
 use kinds::values::OrOut;
 use kinds::word::Word;
 
+/// A performance that two words of 32 bits write, as a sequence has them.
 pub trait Written: Copy {
-    // The words that write a performance.
+    // the words that write a performance.
     ghost words: { Self → ℕ × ℕ };
 
-    // That two words write one.
+    // that two words write one
     ghost AreWords: { ℕ → ℕ → Type 0 };
 
-    // The performance that two words write, if they write one.
+    /// The performance that two words write, or None where they write none.
     fn of_words(high: u32, low: u32) -> Option<Self>
         ensures found { IfSome result (λ v. words v ≡ (high, low)) }
         ensures known { IsSome result ↔ AreWords high low };
 
+    /// The words that write the performance, the higher first.
     fn words(self) -> (u32, u32)
         ensures { result ≡ words self };
 }

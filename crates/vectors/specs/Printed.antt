@@ -2,6 +2,7 @@
 use Rattle.std.specs.Prelude.{◌≡◌, ℕ, Bool, true, false, List, length, Result, Ok, Err}
 use Rattle.files.specs.declared.fault.Fault.{Fault}
 use Rattle.files.specs.Listed.{Analysed}
+use Rattle.files.specs.declared.limits.TheConstants.{LONGEST_REPORT}
 use Rattle.files.specs.Printed.{printed}
 
 -- the text of the answer, and whether it is a report or the line of a fault
@@ -9,7 +10,7 @@ abbrev pub Printed : Result ℕ Fault → List ℕ → Bool → List ℕ → Typ
 Printed (Ok n) out reported text = (reported ≡ true) × (text ≡ printed (Ok n) out)
 Printed (Err f) out reported text = (reported ≡ false) × (text ≡ printed (Err f) out)
 
--- so a model file is analysed, in an output of 3,400 bytes
+-- so a model file is analysed, in an output that has room for every report
 abbrev pub Prints : List ℕ → Bool → List ℕ → Type 0
 Prints model reported text =
-    (out : List ℕ) × (r : Result ℕ Fault) × (out' : List ℕ) × (length out ≡ 3400) × Analysed model out r out' × Printed r out' reported text
+    (out : List ℕ) × (r : Result ℕ Fault) × (out' : List ℕ) × (length out ≡ LONGEST_REPORT) × Analysed model out r out' × Printed r out' reported text

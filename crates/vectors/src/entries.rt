@@ -1,12 +1,15 @@
-// The entries of vectors: each piece of bytes stands after its length, four bytes with the highest first.
+//! The entries of vectors: each piece of bytes stands after its length, four bytes with the
+//! highest first.
 ghost use Rattle.std.specs.Prelude.{◌≡◌, ◌<◌, ◌++◌, ℕ, List, length, IfSome, IfNone};
 ghost use Rattle.std.specs.Int.{w32, to_be_bytes};
 ghost use Rattle.vectors.specs.Entries.{Piece, EntryOf};
 
-// A model file, and what is to be printed of it.
+/// A model file, and what is to be printed of it.
 #[derive(Clone, Copy)]
 pub struct Entry<'a> {
+    /// The bytes of the file.
     pub model: &'a [u8],
+    /// Its report, or the line of its fault.
     pub printed: &'a [u8],
 }
 
@@ -30,10 +33,11 @@ fn piece(bytes: &[u8]) -> Option<(&[u8], &[u8])>
     rest.split_at_checked(len as usize)
 }
 
-// The entry that comes first, and what follows it; None where there is no such entry.
+/// The entry that comes first, and what follows it; None where there is no such entry.
 pub fn next(bytes: &[u8]) -> Option<(Entry<'_>, &[u8])>
     ensures some { IfSome result (λ t. EntryOf bytes.now t.0.model.now t.0.printed.now t.1.now) }
-    ensures none { IfNone result ((model printed rest : List ℕ) → ¬ EntryOf bytes.now model printed rest) }
+    ensures none { IfNone result
+        ((model printed rest : List ℕ) → ¬ EntryOf bytes.now model printed rest) }
 {
     let (model, rest) = piece(bytes)?;
     let (printed, rest) = piece(rest)?;

@@ -1,4 +1,5 @@
-// Reads vectors from standard input, model files each with what is to be printed of it, and compares what `analyse` says.
+//! Reads vectors from standard input, model files each with what is to be printed of it, and
+//! compares what `analyse` says.
 #![tactic(auto)]
 
 ghost use Rattle.std.specs.Prelude.{IfOk, string_bytes};
@@ -8,7 +9,7 @@ mod entries;
 
 use anyhow::bail;
 use entries::Entry;
-use files::analysis::analyse;
+use files::analysis::{LONGEST_REPORT, analyse};
 use std::io::Read;
 
 // What is printed of the files: reports and faults, so many of each.
@@ -18,14 +19,11 @@ struct Tally {
     faults: usize,
 }
 
-// Longer than the longest report.
-const ROOM: usize = 3400;
-
 // What a model file comes to, as text: its report, or the line of its fault.
 fn printed(rt: &HostRuntime, model: &[u8]) -> anyhow::Result<(bool, String)>
     ensures { IfOk result (λ t. Prints model.now t.0 (string_bytes t.1)) }
 {
-    let mut output = [0u8; ROOM];
+    let mut output = [0u8; LONGEST_REPORT];
     match analyse(model, &mut output) {
         Ok(len) => {
             let Some(report) = output.get(..len) else {
@@ -40,7 +38,8 @@ fn printed(rt: &HostRuntime, model: &[u8]) -> anyhow::Result<(bool, String)>
 
 // Compares one entry, and answers whether its file has a report.
 fn compare(rt: &HostRuntime, number: usize, entry: Entry<'_>) -> anyhow::Result<bool>
-    ensures { IfOk result (λ reported. Prints entry.entry.model.now reported entry.entry.printed.now) }
+    ensures { IfOk result (λ reported.
+        Prints entry.entry.model.now reported entry.entry.printed.now) }
 {
     let (reported, said) = printed(rt, entry.model)?;
     let wanted = str::from_utf8(entry.printed)?;

@@ -1,7 +1,10 @@
-// A kind that only these sequences know: a series is as good as its worst part, parallel ways as good as the best.
+//! A kind that only these sequences know: a series is as good as its worst part, parallel ways as
+//! good as the best.
 ghost use Rattle.std.specs.Prelude.{false};
-ghost use Rattle.calls.specs.Grades.{grade_compared, worse, better, grade_bridge, grade_meets};
-ghost use Rattle.calls.specs.GradeLaws.{compared_same, compared_itself, compared_swapped, compared_less, worse_assoc, worse_comm, better_assoc, better_comm};
+ghost use Rattle.calls.specs.GradeKind.{grade_compared, worse, better, grade_bridge, grade_meets};
+ghost use Rattle.calls.specs.GradeLaws.{compared_same, compared_itself};
+ghost use Rattle.calls.specs.GradeLaws.{compared_swapped, compared_less};
+ghost use Rattle.calls.specs.GradeLaws.{worse_assoc, worse_comm, better_assoc, better_comm};
 
 use crate::grade::Grade;
 use kinds::performance::Performance;
