@@ -1,32 +1,32 @@
 -- Grades are a lawful kind, and batches a lawful weight.
 use Rattle.kinds.proofs.Lawful.{Kind, Weighing}
-use Rattle.grades.specs.contracts.grading.GradePerformance.TheImpl.{ghosts as grades}
-use Rattle.grades.specs.contracts.grading.GradePerformance.TheImpl.Laws as grade
-use Rattle.grades.specs.contracts.batching.BatchesWeight.TheImpl.{ghosts as batches}
-use Rattle.grades.specs.contracts.batching.BatchesWeight.TheImpl.Laws as batch
+use Rattle.grades.specs.contracts.grade_kind.GradePerformance.TheImpl.{ghosts as grade_kind}
+use Rattle.grades.specs.contracts.grade_kind.GradePerformance.TheImpl.Laws as of_grades
+use Rattle.grades.specs.contracts.batches_weight.BatchesWeight.TheImpl.{ghosts as batches_weight}
+use Rattle.grades.specs.contracts.batches_weight.BatchesWeight.TheImpl.Laws as of_batches
 
-pub grade_laws : Kind grades
+pub grade_laws : Kind grade_kind
 grade_laws = record {
-  same_itself = grade.identical_same-law;
-  same_only = grade.same_identical-law;
-  swaps = grade.swapped-law;
-  transitive = grade.less_transitive-law;
-  series_assoc = grade.series_associative-law;
-  parallel_assoc = grade.parallel_associative-law;
-  series_comm = grade.series_commutative-law;
-  parallel_comm = grade.parallel_commutative-law;
+  same_itself = of_grades.identical_same-law;
+  same_only = of_grades.same_identical-law;
+  swaps = of_grades.swapped-law;
+  transitive = of_grades.less_transitive-law;
+  series_assoc = of_grades.series_associative-law;
+  parallel_assoc = of_grades.parallel_associative-law;
+  series_comm = of_grades.series_commutative-law;
+  parallel_comm = of_grades.parallel_commutative-law;
 }
 
-pub batch_laws : Weighing batches
+pub batch_laws : Weighing batches_weight
 batch_laws = record {
-  nothing_is = batch.test_accepts_nothing-law;
-  only_nothing = batch.test_accepts_only_nothing-law;
-  sum_assoc = batch.sum_associative-law;
-  sum_comm = batch.sum_commutative-law;
-  neutral = batch.sum_neutral-law;
-  no_cancelling = batch.sum_none-law;
-  product_assoc = batch.product_associative-law;
-  product_comm = batch.product_commutative-law;
-  distributes = batch.product_distributes-law;
-  absorbs = batch.product_nothing-law;
+  nothing_is = of_batches.test_accepts_nothing-law;
+  only_nothing = of_batches.test_accepts_only_nothing-law;
+  sum_assoc = of_batches.sum_associative-law;
+  sum_comm = of_batches.sum_commutative-law;
+  neutral = of_batches.sum_neutral-law;
+  no_cancelling = of_batches.sum_none-law;
+  product_assoc = of_batches.product_associative-law;
+  product_comm = of_batches.product_commutative-law;
+  distributes = of_batches.product_distributes-law;
+  absorbs = of_batches.product_nothing-law;
 }

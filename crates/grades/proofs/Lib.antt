@@ -1,5 +1,3 @@
-pub mod Collecting
-pub mod Going
 pub mod Laws
 pub mod Leaving
 pub mod Working

@@ -4,14 +4,14 @@ use Rattle.std.proofs.Common.{ap}
 use Rattle.std.proofs.lemmas.Bool.{eqb-true}
 use Rattle.kinds.specs.Caps as caps
 use Rattle.kinds.specs.WordLaws.{holds}
-use Rattle.grades.specs.Batched.{top16, how_many, no_batches, batches_sum, batches_product, are_none}
+use Rattle.grades.specs.BatchesWeight.{top16, how_many, no_batches, batches_sum, batches_product, are_none}
 use Rattle.grades.specs.Bounded.{NumbersTo, bound_path}
 use Rattle.grades.specs.declared.batches.Batches.{Batches}
 
 pub batches_same : (a b : Batches) → how_many a ≡ how_many b → a ≡ b
-batches_same a b p = λ i. record { count = p i; fits = bound_path p 65535 a.fits b.fits i }
+batches_same a b p = λ i. record { count = p i; fits = bound_path p top16 a.fits b.fits i }
 
-pub batches_to_the_top : NumbersTo 65535 how_many
+pub batches_to_the_top : NumbersTo top16 how_many
 batches_to_the_top = record {
   every = λ n h. let b : Batches = record { count = n; fits = h } in (b, holds how_many batches_same n b refl);
   none_else = λ b. b.fits;

@@ -5,7 +5,7 @@ use Rattle.std.proofs.Math.Nat.{min_comm, max_comm}
 use Rattle.std.proofs.Common.{arith}
 use Rattle.kinds.specs.WordLaws.{holds, nat_equal, min_assoc}
 use Rattle.grades.specs.Bounded.{NumbersTo, bound_path}
-use Rattle.grades.specs.Grades.{grade_number, grade_compared, lower, higher}
+use Rattle.grades.specs.GradeKind.{grade_number, grade_compared, lower, higher}
 use Rattle.grades.specs.declared.grade.Grade.{Grade}
 
 pub grade_same : (a b : Grade) → a.digit ≡ b.digit → a ≡ b

@@ -1,10 +1,10 @@
 pub mod Bounded
-pub mod Grades
+pub mod GradeKind
 pub mod GradeLaws
-pub mod Batched
+pub mod BatchesWeight
 pub mod BatchesLaws
 pub mod Shares
-pub mod Steps
+pub mod Building
 pub mod Plants
 pub mod Lines
 pub mod Files

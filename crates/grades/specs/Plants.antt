@@ -1,23 +1,24 @@
 -- The plant in a diagram: how it is drawn, and how it is worked out.
 use Rattle.std.specs.Prelude.{◌≡◌, ℕ, ◌≤◌, ◌⊎◌, List, [], ◌∷◌, length, map, Ok, Err}
 use Rattle.terms.specs.declared.term.Term.{Term}
+use Rattle.diagram.specs.declared.limits.TheConstants.{STORE}
 use Rattle.diagram.specs.declared.refusal.Refusal.{Refusal}
 use Rattle.diagram.specs.declared.table.Table.{Table}
 use Rattle.diagram.specs.Refusals.{Asked}
 use Rattle.diagram.specs.Calls.{Restated, Collected}
 use Rattle.diagram.specs.Runs.{Run}
 use Rattle.diagram.specs.Shown.{records}
-use Rattle.files.specs.Drawn.{history_of}
-use Rattle.grades.specs.contracts.grading.GradePerformance.TheImpl.{ghosts as grades}
-use Rattle.grades.specs.contracts.batching.BatchesWeight.TheImpl.{ghosts as batches}
+use Rattle.diagram.specs.Makings.{history_of}
+use Rattle.grades.specs.contracts.grade_kind.GradePerformance.TheImpl.{ghosts as grade_kind}
+use Rattle.grades.specs.contracts.batches_weight.BatchesWeight.TheImpl.{ghosts as batches_weight}
 use Rattle.grades.specs.declared.batches.Batches.{Batches}
 use Rattle.grades.specs.declared.grade.Grade.{Grade}
 use Rattle.grades.specs.declared.plant.Plant.{Plant}
 use Rattle.grades.specs.declared.plant.States.{States}
-use Rattle.grades.specs.Batched.{how_many}
-use Rattle.grades.specs.Grades.{grade_number}
+use Rattle.grades.specs.BatchesWeight.{how_many}
+use Rattle.grades.specs.GradeKind.{grade_number}
 use Rattle.grades.specs.Shares.{RowsOfShare}
-use Rattle.grades.specs.Steps.{nodes_made}
+use Rattle.grades.specs.Building.{nodes_made}
 
 -- states by their numbers: a grade, and how many batches
 abbrev pub numbers_of : List (Term Grade Batches) → List (ℕ × ℕ)
@@ -35,23 +36,31 @@ pub record Stands (parts : States) (lent : ℕ) (store : List (Term Grade Batche
   pub first : p.first ≡ 0
   pub lines : p.lines ≡ 3
   pub whole : p.whole ≡ 4
-  pub run : Run grades batches (history_of lent (nodes_made parts.first parts.second parts.finishing)) p.diagram store
+  pub run : Run grade_kind batches_weight (history_of lent (nodes_made parts.first parts.second parts.finishing)) p.diagram store
 
 -- what is left of the store: all of it, if it is too short, or the rows of the parts
 abbrev pub LeftByDrawing : States → List (Term Grade Batches) → List (Term Grade Batches) → Type 0
-LeftByDrawing p s s' = Asked (3200 ≤ length s) (s' ≡ s) (RowsOfShare p.first p.second p.finishing 3 s s')
+LeftByDrawing p s s' = Asked (STORE ≤ length s) (s' ≡ s) (RowsOfShare p.first p.second p.finishing 3 s s')
 
 -- two nodes are collected, one after the other
 abbrev pub BothCollected : Table → List (Term Grade Batches) → ℕ → ℕ → Table → List (Term Grade Batches) → Type 0
 BothCollected t s first second t' s' =
     (between : Table) × (left : List (Term Grade Batches)) × (m : ℕ) × (n : ℕ) ×
-    Collected grades batches t s first (Ok m) between left × Collected grades batches between left second (Ok n) t' s'
+    Collected grade_kind batches_weight t s first (Ok m) between left × Collected grade_kind batches_weight between left second (Ok n) t' s'
 
 -- the first of two nodes is refused, or the second once the first is collected
 abbrev pub OneRefused : Table → List (Term Grade Batches) → ℕ → ℕ → Refusal → Table → List (Term Grade Batches) → Type 0
 OneRefused t s first second why t' s' =
-    Collected grades batches t s first (Err why) t' s'
-    ⊎ ((between : Table) × (left : List (Term Grade Batches)) × (m : ℕ) × Collected grades batches t s first (Ok m) between left × Collected grades batches between left second (Err why) t' s')
+    Collected grade_kind batches_weight t s first (Err why) t' s'
+    ⊎ ((between : Table) × (left : List (Term Grade Batches)) × (m : ℕ) × Collected grade_kind batches_weight t s first (Ok m) between left × Collected grade_kind batches_weight between left second (Err why) t' s')
+
+-- the lines are collected, and then the whole; or one of them is refused
+module _ (p : Plant) (s : List (Term Grade Batches)) (p' : Plant) (s' : List (Term Grade Batches)) where
+  abbrev pub WholeCollected : Type 0
+  WholeCollected = BothCollected (records p.diagram) s p.lines p.whole (records p'.diagram) s'
+
+  abbrev pub WholeRefused : Refusal → Type 0
+  WholeRefused why = OneRefused (records p.diagram) s p.lines p.whole why (records p'.diagram) s'
 
 -- the first line has new states; a collecting of the whole is refused then, and after it the lines and the whole are collected
 pub record Retooled (p : Plant) (s : List (Term Grade Batches)) (p' : Plant) (s' : List (Term Grade Batches)) : Type 0 where
@@ -60,9 +69,9 @@ pub record Retooled (p : Plant) (s : List (Term Grade Batches)) (p' : Plant) (s'
   pub n : ℕ
   pub stale : Table
   pub left : List (Term Grade Batches)
-  pub restated : Restated grades batches (records p.diagram) s p.first states (Ok n) stale left
+  pub restated : Restated grade_kind batches_weight (records p.diagram) s p.first states (Ok n) stale left
   pub why : Refusal
   pub as_stale : Table
   pub kept : List (Term Grade Batches)
-  pub early : Collected grades batches stale left p.whole (Err why) as_stale kept
+  pub early : Collected grade_kind batches_weight stale left p.whole (Err why) as_stale kept
   pub again : BothCollected as_stale kept p.lines p.whole (records p'.diagram) s'

@@ -1,4 +1,4 @@
-// What calls answer, and what nodes tell.
+//! What calls answer, and what nodes say.
 ghost use Rattle.std.specs.Prelude.{◌≡◌, MatchResult, Ok, Err, Some, IfOk};
 ghost use Rattle.diagram.specs.Refusals.{number_of};
 ghost use Rattle.diagram.specs.Shown.{records};
@@ -12,16 +12,18 @@ use diagram::diagram::Diagram;
 use diagram::refusal::Refusal;
 use std::fmt;
 
-// What a call answers; a refusal becomes an error of the program.
-pub fn told<T: Drop>(answer: Result<T, Refusal>) -> anyhow::Result<T>
+/// What a call answers; a refusal becomes an error of the program.
+pub fn accepted<T: Drop>(answer: Result<T, Refusal>) -> anyhow::Result<T>
     ensures { MatchResult result (λ x. answer ≡ Ok x) (λ _. (e : Refusal) × (answer ≡ Err e)) }
 {
     answer.map_err(|refusal| anyhow!("refused by question {}", refusal.number()))
 }
 
-// The number of the question that refused a call; that it was accepted becomes an error.
+/// The number of the question that refused a call; that it was accepted becomes an error.
 pub fn refused<T: Drop>(answer: Result<T, Refusal>) -> anyhow::Result<u8>
-    ensures { MatchResult result (λ n. (e : Refusal) × (answer ≡ Err e) × (n ≡ number_of e)) (λ _. (x : T) × (answer ≡ Ok x)) }
+    ensures { MatchResult result
+        (λ n. (e : Refusal) × (answer ≡ Err e) × (n ≡ number_of e))
+        (λ _. (x : T) × (answer ≡ Ok x)) }
 {
     match answer {
         Ok(_) => bail!("a call was accepted that has to be refused"),
@@ -38,7 +40,7 @@ struct Share {
 }
 
 impl Share {
-    ghost use Rattle.grades.specs.Lines.{ShareTold};
+    ghost use Rattle.grades.specs.Lines.{ShareOrRefusal};
 
     // As node k of the diagram answers it.
     fn of(
@@ -47,7 +49,7 @@ impl Share {
         k: usize,
         grade: Grade,
     ) -> Result<Share, Refusal>
-        ensures { ShareTold (records diagram.now) store.now k grade result }
+        ensures { ShareOrRefusal (records diagram.now) store.now k grade result }
     {
         let (met, all) = diagram.availability(store, k, grade)?;
         Ok(Share { grade, met, all })
@@ -75,12 +77,12 @@ pub(crate) fn show(
 ) -> anyhow::Result<()>
     ensures { IfOk result (λ _. Answering (records diagram.now) store.now k) }
 {
-    let size = told(diagram.size(store, k))?;
+    let size = accepted(diagram.size(store, k))?;
     for i in 0..size {
-        let state = told(diagram.term(store, k, i))?;
+        let state = accepted(diagram.term(store, k, i))?;
         println!(rt; "  grade {}: {} batches", state.performance, state.weight)?;
     }
-    let share = told(Share::of(diagram, store, k, grade))?;
+    let share = accepted(Share::of(diagram, store, k, grade))?;
     println!(rt; "  {share}")?;
     Ok(())
 }

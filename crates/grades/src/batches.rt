@@ -1,8 +1,9 @@
-// How many batches: a number of 16 bits, of which the largest says that many or more.
+//! How many batches.
 ghost use Rattle.std.specs.Prelude.{◌≡◌, ◌≤◌, Some, decimal};
 
 use std::fmt;
 
+/// So many batches: a number of 16 bits, of which the largest says that many or more.
 #[derive(Clone, Copy, PartialEq, Eq, Debug)]
 pub struct Batches {
     count: u16,
@@ -18,28 +19,31 @@ impl fmt::Display for Batches {
 }
 
 impl Batches {
-    ghost use Rattle.grades.specs.Batched.{how_many, batches_sum, batches_product};
+    ghost use Rattle.grades.specs.BatchesWeight.{how_many, batches_sum, batches_product};
     ghost use Rattle.kinds.specs.Holding.{Holds};
 
-    // The one place where a value is made.
+    /// So many batches. It is the one place where a value is made.
     pub fn new(count: u16) -> Batches
         ensures { Holds how_many count result }
     {
         Batches { count }
     }
 
+    /// How many they are.
     pub fn number(self) -> u16
         ensures { result ≡ how_many self }
     {
         self.count
     }
 
+    /// The sum, or the largest number.
     pub fn capped_sum(self, other: Batches) -> Batches
         ensures { result ≡ batches_sum self other }
     {
         Batches::new(self.count.saturating_add(other.count))
     }
 
+    /// The product, or the largest number.
     pub fn capped_product(self, other: Batches) -> Batches
         ensures { result ≡ batches_product self other }
     {

@@ -1,21 +1,23 @@
-// A plant read from a model file of this kind.
+//! A plant read from a model file of this kind.
 ghost use Rattle.std.specs.Prelude.{◌≡◌, ◌<◌, IfOk};
+ghost use Rattle.diagram.specs.Shown.{records};
 ghost use Rattle.diagram.specs.Store.{Kept};
-ghost use Rattle.grades.specs.Files.{IsModelFile, AllCollected};
+ghost use Rattle.grades.specs.Files.{IsModelFile, NodesCollected};
 
-use crate::answers::{show, told};
+use crate::answers::show;
 use crate::batches::Batches;
 use crate::grade::Grade;
-use crate::numbered::{grade, state};
+use crate::numbered::{grade_numbered, state};
 use crate::share::State;
 use anyhow::bail;
-use diagram::refusal::Refusal;
-use diagram::theorems::runs_are_right;
-use files::model::Model;
+use diagram::limits::STORE;
+use files::limits::ROOM;
+use files::model_file::ModelFile;
 use files::read::read;
 
-// The file, from the number of its records on: 300 batches of grade 3 and 200 of grade 8 in parallel with 100 of grade 6, then
-// a step that makes 2 of grade 7, and grade 7 is asked for. A state is the word 0, the word of its grade, and eight bytes of batches.
+// The file, from the number of its records on: 300 batches of grade 3 and 200 of grade 8 in
+// parallel with 100 of grade 6, then a step that makes 2 of grade 7, and grade 7 is asked for. A
+// state is the word 0, the word of its grade, and eight bytes of batches.
 #[rattlefmt::skip]
 const FILE: [u8; 89] = [
     6,
@@ -40,8 +42,8 @@ pub(crate) fn by_file(rt: &HostRuntime) -> anyhow::Result<()> {
     show_file(rt, &FILE)?;
     let mut damaged = FILE;
     damaged[FIRST_GRADE] = 10;
-    let mut store = [state(0, 0)?; 3200];
-    let mut room = [state(0, 0)?; 255];
+    let mut store = [state(0, 0)?; STORE];
+    let mut room = [state(0, 0)?; ROOM];
     match read::<Grade, Batches>(&damaged, &mut store, &mut room) {
         Ok(_) => bail!("a file with a grade of 10 was read"),
         Err(fault) => println!(rt; "With a grade of 10 in it: {fault}")?,
@@ -53,34 +55,26 @@ pub(crate) fn by_file(rt: &HostRuntime) -> anyhow::Result<()> {
 fn show_file(rt: &HostRuntime, bytes: &[u8]) -> anyhow::Result<()>
     ensures { IfOk result (λ _. IsModelFile bytes.now) }
 {
-    let mut store = [state(0, 0)?; 3200];
-    let mut room = [state(0, 0)?; 255];
+    let mut store = [state(0, 0)?; STORE];
+    let mut room = [state(0, 0)?; ROOM];
     let mut model = match read::<Grade, Batches>(bytes, &mut store, &mut room) {
         Ok(model) => model,
         Err(fault) => bail!("{fault}"),
     };
     collect_all(&mut model, &mut store)?;
     let last = usize::from(model.nodes.saturating_sub(1));
-    show(rt, &model.diagram, &store, last, grade(7)?)
+    show(rt, &model.diagram, &store, last, grade_numbered(7)?)
 }
 
 // Works out the joined nodes, by rising number.
-fn collect_all(model: &mut Model<Grade, Batches>, store: &mut [State]) -> anyhow::Result<()>
-    ensures collected { IfOk result (λ _. AllCollected model.old.nodes model.old.diagram store.old model.new.diagram store.new) }
-    ensures kept { Kept (λ k. k < model.old.nodes) store.old store.new }
+fn collect_all(model: &mut ModelFile<Grade, Batches>, store: &mut [State]) -> anyhow::Result<()>
+    ensures collected { IfOk result (λ _. NodesCollected model.old store.old model.new store.new) }
+    ensures kept { Kept (λ k. k < (records model.old.diagram).count) store.old store.new }
     ensures nodes { model.new.nodes ≡ model.old.nodes }
     ensures demands { model.new.demands ≡ model.old.demands }
 {
-    runs_are_right::<Grade, Batches>();
-    for k in 0..model.nodes {
-        let answer = model.diagram.collect(store, usize::from(k));
-        match answer {
-            // A part has nothing to collect.
-            Err(Refusal::NotJoined) => {}
-            _ => {
-                told(answer)?;
-            }
-        }
+    match model.diagram.collect_all(store) {
+        Ok(()) => Ok(()),
+        Err(at) => bail!("refused by question {}", at.refusal.number()),
     }
-    Ok(())
 }

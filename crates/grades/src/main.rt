@@ -1,13 +1,13 @@
-// A plant by the grades of its products, with a kind of performance and a kind of weight that are brought from outside the
-// libraries.
+//! A plant by the grades of its products, with a kind of performance and a kind of weight that are
+//! brought from outside the libraries.
 #![tactic(auto)]
 
 mod answers;
 pub mod batches;
-mod batching;
+mod batches_weight;
 mod file;
 pub mod grade;
-mod grading;
+mod grade_kind;
 mod numbered;
 mod plant;
 pub mod share;

@@ -1,14 +1,15 @@
-// A plant drawn by calls: two lines in parallel, and then a finishing step.
+//! A plant drawn by calls: two lines in parallel, and then a finishing step.
 ghost use Rattle.std.specs.Prelude.{◌≡◌, length, IfOk, IfErr};
-ghost use Rattle.diagram.specs.Shown.{records};
-ghost use Rattle.grades.specs.Plants.{GivenStates, Stands, LeftByDrawing, BothCollected, OneRefused, Retooled};
+ghost use Rattle.grades.specs.Plants.{GivenStates, Stands, LeftByDrawing};
+ghost use Rattle.grades.specs.Plants.{WholeCollected, WholeRefused, Retooled};
 
-use crate::answers::{refused, show, told};
+use crate::answers::{accepted, refused, show};
 use crate::batches::Batches;
 use crate::grade::Grade;
-use crate::numbered::{grade, state};
+use crate::numbered::{grade_numbered, state};
 use crate::share::{State, add_parts, join_parts, share_of_grade};
 use diagram::diagram::Diagram;
+use diagram::limits::STORE;
 use diagram::refusal::Refusal;
 
 // The states of the parts, and the grade that is asked for.
@@ -27,7 +28,7 @@ fn given() -> anyhow::Result<States>
         first: [state(3, 2)?, state(7, 8)?],
         second: [state(5, 6)?, state(8, 4)?],
         finishing: [state(4, 1)?, state(9, 9)?],
-        asked: grade(7)?,
+        asked: grade_numbered(7)?,
     })
 }
 
@@ -64,8 +65,9 @@ impl Plant {
 
     // Works out the lines, and then the whole.
     fn collect(&mut self, store: &mut [State]) -> Result<(), Refusal>
-        ensures collected { IfOk result (λ _. BothCollected (records self.old.diagram) store.old self.old.lines self.old.whole (records self.new.diagram) store.new) }
-        ensures refused { IfErr result (λ why. OneRefused (records self.old.diagram) store.old self.old.lines self.old.whole why (records self.new.diagram) store.new) }
+        ensures collected { IfOk result (λ _.
+            WholeCollected self.old store.old self.new store.new) }
+        ensures refused { IfErr result (WholeRefused self.old store.old self.new store.new) }
         ensures first { self.new.first ≡ self.old.first }
         ensures lines { self.new.lines ≡ self.old.lines }
         ensures whole { self.new.whole ≡ self.old.whole }
@@ -78,9 +80,9 @@ impl Plant {
 
 pub(crate) fn by_calls(rt: &HostRuntime) -> anyhow::Result<()> {
     let parts = given()?;
-    let mut store = [state(0, 0)?; 3200];
-    let mut plant = told(Plant::draw(&parts, &mut store))?;
-    told(plant.collect(&mut store))?;
+    let mut store = [state(0, 0)?; STORE];
+    let mut plant = accepted(Plant::draw(&parts, &mut store))?;
+    accepted(plant.collect(&mut store))?;
     rt.println("Two lines in parallel make:")?;
     show(rt, &plant.diagram, &store, plant.lines, parts.asked)?;
     rt.println("After the finishing step:")?;
@@ -91,10 +93,10 @@ pub(crate) fn by_calls(rt: &HostRuntime) -> anyhow::Result<()> {
 
 // The same in one call.
 fn at_once(rt: &HostRuntime, parts: &States) -> anyhow::Result<()> {
-    let mut store = [state(0, 0)?; 3200];
+    let mut store = [state(0, 0)?; STORE];
     let (first, second, finishing) = (&parts.first, &parts.second, &parts.finishing);
     let share = share_of_grade(first, second, finishing, parts.asked, &mut store);
-    let (met, all) = told(share)?;
+    let (met, all) = accepted(share)?;
     println!(rt; "In one call: {met} of {all} batches")?;
     Ok(())
 }
@@ -112,13 +114,13 @@ fn new_tools(
     ensures whole { plant.new.whole ≡ plant.old.whole }
 {
     let states = [state(6, 1)?, state(9, 9)?];
-    told(plant.diagram.restate(store, plant.first, &states))?;
+    accepted(plant.diagram.restate(store, plant.first, &states))?;
     rt.println("The first line gets new tools.")?;
     let stale = refused(plant.diagram.total(store, plant.whole))?;
     println!(rt; "Asking the plant is refused by question {stale}")?;
     let early = refused(plant.diagram.collect(store, plant.whole))?;
     println!(rt; "Working it out before the lines is refused by question {early}")?;
-    told(plant.collect(store))?;
+    accepted(plant.collect(store))?;
     rt.println("Worked out again:")?;
     show(rt, &plant.diagram, store, plant.whole, asked)
 }

@@ -1,18 +1,17 @@
-// What of a plant's products is at least of a grade: what follows for its caller from the promise over all runs.
-ghost use Rattle.std.specs.Prelude.{◌≡◌, ◌≤◌, List, Ok, length};
-ghost use Rattle.terms.specs.declared.term.Term.{Term};
+//! What of a plant's products is at least of a grade: what follows for its caller from the promise
+//! over all runs.
+ghost use Rattle.std.specs.Prelude.{◌≡◌, ◌≤◌, Ok, length};
 ghost use Rattle.diagram.specs.Calls.{Made};
-ghost use Rattle.diagram.specs.Runs.{AnswersRight, Run};
+ghost use Rattle.diagram.specs.Runs.{AnswersRight};
 ghost use Rattle.diagram.specs.Shown.{records};
-ghost use Rattle.files.specs.Drawn.{history_of};
-ghost use Rattle.grades.specs.declared.batches.Batches.{Batches};
-ghost use Rattle.grades.specs.declared.grade.Grade.{Grade};
-ghost use Rattle.grades.specs.Shares.{ShareOf, LeftOfShare, RowsOfShare};
-ghost use Rattle.grades.specs.Steps.{in_order, parts_made, PartsAdded, PartsJoined, WorkedOut, LeftByAdding};
+ghost use Rattle.grades.specs.Shares.{ShareOf, LeftOfShare};
+ghost use Rattle.grades.specs.Building.{in_order, PartsAdded, LeftByAdding};
+ghost use Rattle.grades.specs.Building.{JoinsParts, WorksOut, LeavesRows};
 
 use crate::batches::Batches;
 use crate::grade::Grade;
 use diagram::diagram::Diagram;
+use diagram::limits::STORE;
 use diagram::refusal::Refusal;
 use kinds::performance::Performance;
 use kinds::weight::Weight;
@@ -20,7 +19,7 @@ use terms::drawings::combinations_go_child_by_child;
 use terms::term::{Term, Way};
 use terms::theorems::summing_keeps_distributions;
 
-// So many batches of a grade.
+/// So many batches of a grade.
 pub type State = Term<Grade, Batches>;
 
 // The numbers of a plant's parts.
@@ -38,7 +37,11 @@ pub(crate) struct Joined {
     pub(crate) whole: usize,
 }
 
-// Two lines in parallel and then a finishing step: how many batches are of this grade or better, and how many there are.
+/// Of two lines in parallel and then a finishing step: how many batches are of this grade or
+/// better, and how many there are.
+///
+/// A store of fewer than `STORE` terms is refused, and then the first part without 1 to `TERMS`
+/// states.
 pub fn share_of_grade(
     first: &[State],
     second: &[State],
@@ -67,7 +70,8 @@ pub(crate) fn add_parts(
 ) -> Result<Nodes, Refusal>
     requires new { Made records store.old (Ok plant.old) }
     requires right { AnswersRight ⟦<Grade as Performance>⟧ ⟦<Batches as Weight>⟧ }
-    ensures added { PartsAdded first.now second.now finishing.now (length store.old) plant.new store.new result }
+    ensures added { PartsAdded first.now second.now finishing.now
+        (length store.old) plant.new store.new result }
     ensures left { LeftByAdding first.now second.now finishing.now store.old store.new }
 {
     Ok(Nodes {
@@ -83,10 +87,10 @@ pub(crate) fn join_parts(
     parts: Nodes,
     store: &[State],
 ) -> Result<Joined, Refusal>
-    requires roomy { 3200 ≤ length store.now }
+    requires roomy { STORE ≤ length store.now }
     requires right { AnswersRight ⟦<Grade as Performance>⟧ ⟦<Batches as Weight>⟧ }
     requires parts { parts ≡ in_order }
-    ensures { (first second finishing : List (Term Grade Batches)) → Run ⟦<Grade as Performance>⟧ ⟦<Batches as Weight>⟧ (history_of (length store.now) (parts_made first second finishing)) plant.old store.now → PartsJoined first second finishing (length store.now) plant.new store.now result }
+    ensures { JoinsParts plant.old store.now plant.new result }
 {
     let lines = plant.join(store, Way::Parallel, &[parts.first, parts.second])?;
     let whole = plant.join(store, Way::Series, &[lines, parts.finishing])?;
@@ -99,11 +103,11 @@ fn work_out(
     parts: Nodes,
     store: &mut [State],
 ) -> Result<usize, Refusal>
-    requires roomy { 3200 ≤ length store.old }
+    requires roomy { STORE ≤ length store.old }
     requires right { AnswersRight ⟦<Grade as Performance>⟧ ⟦<Batches as Weight>⟧ }
     requires parts { parts ≡ in_order }
-    ensures worked { (first second finishing : List (Term Grade Batches)) → Run ⟦<Grade as Performance>⟧ ⟦<Batches as Weight>⟧ (history_of (length store.old) (parts_made first second finishing)) plant.old store.old → WorkedOut first second finishing (length store.old) plant.new store.new result }
-    ensures left { (first second finishing : List (Term Grade Batches)) → Run ⟦<Grade as Performance>⟧ ⟦<Batches as Weight>⟧ (history_of (length store.old) (parts_made first second finishing)) plant.old store.old → RowsOfShare first second finishing 5 store.old store.new }
+    ensures worked { WorksOut plant.old store.old plant.new store.new result }
+    ensures left { LeavesRows plant.old store.old plant.new store.new }
 {
     let joined = join_parts(plant, parts, store)?;
     plant.collect(store, joined.lines)?;

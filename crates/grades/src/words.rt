@@ -1,13 +1,13 @@
-// Grades and batches as words of a model file.
-ghost use Rattle.grades.specs.Grades.{grade_number};
+//! Grades and batches as words of a model file.
+ghost use Rattle.grades.specs.GradeKind.{grade_number};
 ghost use Rattle.grades.specs.GradeLaws.{grade_same};
-ghost use Rattle.grades.specs.Batched.{how_many};
+ghost use Rattle.grades.specs.BatchesWeight.{how_many};
 ghost use Rattle.grades.specs.BatchesLaws.{batches_same};
 ghost use Rattle.std.proofs.Common.{rules};
 
 use crate::batches::Batches;
 use crate::grade::Grade;
-use files::value::{FilePerformance, FileWeight};
+use files::words::{FilePerformance, FileWeight};
 
 // The first word is 0, the second is the grade's number.
 impl FilePerformance for Grade {

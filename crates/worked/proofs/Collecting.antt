@@ -8,23 +8,24 @@ use Rattle.terms.specs.declared.term.Term.{Term}
 use Rattle.terms.specs.declared.term.Way.{Way}
 use Rattle.terms.specs.Drawings.{Drawing}
 use Rattle.terms.specs.Enumeration.{enumeration}
-use Rattle.terms.specs.Steps.{running_drawings, RunningResult}
+use Rattle.terms.specs.Stepwise.{running_drawings, RunningResult}
 use Rattle.terms.proofs.Canonical.{row_unique}
 use Rattle.diagram.proofs.Lengths.{row_no_longer}
+use Rattle.diagram.specs.declared.limits.TheConstants.{TERMS}
 use Rattle.diagram.specs.declared.refusal.Refusal.TheVariants.{LongResult}
 use Rattle.diagram.specs.Refusals.{Asked}
 use Rattle.diagram.specs.Histories.{collecting, number, Reply, History, joined_from, named_by, made, making_of, drawing_of, states_of, children_of, IsPart, Answers}
 use Rattle.diagram.specs.RightAnswers.{RightAnswer, RowOfNode, ArmsShort, ResultsShort}
-use Rattle.worked.proofs.Going.{yes, granted}
+use Rattle.diagram.proofs.RunGoesOn.{yes, granted}
 
 module _ {P W : Type 0} {kind : Performance.Ghosts P} {weights : Weight.Ghosts W} (laws : Kind kind) (weigh : Weighing weights) where
   abbrev Terms : Type 0
   Terms = List (Term P W)
 
   abbrev Few : (ℕ → Terms) → Drawing → Type 0
-  Few states x = length (enumeration kind weights states x) ≤ 64
+  Few states x = length (enumeration kind weights states x) ≤ TERMS
 
-  -- each of the drawings has at most 64 combinations
+  -- each of the drawings has at most as many combinations as a row may have terms
   abbrev pub FewEach : (ℕ → Terms) → List Drawing → Type 0
   FewEach states [] = Unit {0}
   FewEach states (x ∷ xs) = Few states x × FewEach states xs
@@ -34,7 +35,7 @@ module _ {P W : Type 0} {kind : Performance.Ghosts P} {weights : Weight.Ghosts W
   among_few states (x ∷ xs) few = All-cons (Few states) x xs few.0 (among_few states xs few.1)
 
   -- a running result is no longer than the list of its combinations
-  pub few_combinations : (states : ℕ → Terms) (d : Drawing) → FewEach states (running_drawings d) → (row : Terms) → RunningResult kind weights states d row → length row ≤ 64
+  pub few_combinations : (states : ℕ → Terms) (d : Drawing) → FewEach states (running_drawings d) → (row : Terms) → RunningResult kind weights states d row → length row ≤ TERMS
   few_combinations states d few row (x, among, of) =
       let short = All-contains (Few states) (running_drawings d) x (among_few states (running_drawings d) few) among in
       omega (arith, short, row_no_longer laws weigh _ row of)
@@ -69,7 +70,7 @@ module _ {P W : Type 0} {kind : Performance.Ghosts P} {weights : Weight.Ghosts W
     )
 
     -- it is refused: this row is a running result, and too long
-    pub refused_with : (row : Terms) → RunningResult kind weights (states_of h) (drawing_of h k) row → 64 < length row → (r : Reply P W) → Right r ↔ (r ≡ Err LongResult)
+    pub refused_with : (row : Terms) → RunningResult kind weights (states_of h) (drawing_of h k) row → TERMS < length row → (r : Reply P W) → Right r ↔ (r ≡ Err LongResult)
     refused_with row is long r =
         let past : ¬ ResultsShort kind weights h k = λ short. let few = short row is in omega (arith, long, few) in
         (λ x. told past ((last_asked r).0 x), λ e. (last_asked r).1 (inr (past, e)))

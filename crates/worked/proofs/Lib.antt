@@ -1,6 +1,5 @@
 pub mod Computed
 pub mod Drawing
-pub mod Going
 pub mod Needs
 pub mod Rows
 pub mod Texts

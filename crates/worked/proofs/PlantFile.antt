@@ -1,6 +1,5 @@
 -- The model file of the plant, read and analysed.
-use Rattle.std.proofs.Common.{◌≡◌, ◌≢◌, ◌↔◌, ℕ, zero, suc, ◌<◌, ◌≤◌, ◌==◌, Bool, true, false, cond, List, [], ◌∷◌, length, drop, All, AllPairs, Contains, Option, Some, None, Result, refl, sym, subst, inl, inr, arith}
-use Rattle.std.proofs.lemmas.List.Elements.{All-contains, All-nil, All-from_recursion}
+use Rattle.std.proofs.Common.{◌≡◌, ◌≢◌, ◌↔◌, ℕ, ◌<◌, ◌≤◌, List, [], ◌∷◌, length, drop, All, Some, Result, refl, sym, subst, inl, inr, arith}
 use borrow.Author.Count.{below_none, below_more}
 use Rattle.std.specs.Fmt.{digits}
 use Rattle.kinds.specs.Named.{Flow, Parts}
@@ -12,23 +11,26 @@ use Rattle.kinds.specs.WordLaws.{word_same}
 use Rattle.kinds.proofs.FlowLaws.{flow_laws}
 use Rattle.kinds.proofs.PartsLaws.{parts_laws}
 use Rattle.terms.specs.declared.term.Way.TheVariants.{Series, Parallel}
-use Rattle.terms.specs.Steps.{running_drawings}
+use Rattle.terms.specs.Stepwise.{running_drawings}
 use Rattle.terms.specs.Enumeration.{enumeration}
-use Rattle.diagram.specs.Histories.{Making, added, joined_from, bridged_from, named_by, History, made, making_of, drawing_of, states_of, Unused}
-use Rattle.files.specs.contracts.values.WordFilePerformance.TheImpl.{ghosts as one_word}
-use Rattle.files.specs.contracts.values.WordFileWeight.TheImpl.{ghosts as weight_word}
+use Rattle.diagram.specs.Histories.{Making, added, joined_from, bridged_from, History, made, making_of, drawing_of, states_of, Unused}
+use Rattle.files.specs.contracts.named_words.WordFilePerformance.TheImpl.{ghosts as one_word}
+use Rattle.files.specs.contracts.named_words.WordFileWeight.TheImpl.{ghosts as weight_word}
 use Rattle.files.specs.WordLaws.{one_word_fits, one_word_tells, word_fits}
 use Rattle.files.specs.declared.fault.Fault.{Fault}
+use Rattle.files.specs.declared.limits.TheConstants.{LONGEST_REPORT}
 use Rattle.files.specs.Contents.{Contents}
-use Rattle.files.specs.Drawn.{drawn, TakesNext}
+use Rattle.diagram.specs.declared.limits.TheConstants.{TERMS}
+use Rattle.diagram.specs.InTurn.{Short}
+use Rattle.diagram.specs.Makings.{drawn, TakesNext}
 use Rattle.files.specs.Reading.{ValidContents}
-use Rattle.files.specs.Analyses.{Short, AnalysedAs}
+use Rattle.files.specs.Analyses.{AnalysedAs}
 use Rattle.files.specs.Listed.{Analysed}
-use Rattle.files.specs.Reports.{longest_report, report_of, Put}
+use Rattle.files.specs.Reports.{report_of, Put}
 use Rattle.files.proofs.Bytes.{FileKind, FileWeighing}
 use Rattle.files.proofs.Known.{known_report}
 use Rattle.worked.specs.Examples.{flow, pump_a, pump_b, pipe, plant, HasRow, plant_file, plant_report}
-use Rattle.worked.proofs.Going.{yes}
+use Rattle.diagram.proofs.RunGoesOn.{yes, both_of, apart, neither, no_one, unused_on}
 use Rattle.worked.proofs.Collecting.{FewEach, few_combinations}
 use Rattle.worked.proofs.Computed.{row_by_computing}
 
@@ -37,23 +39,6 @@ words = record { fit = one_word_fits; tell = one_word_tells }
 
 weighing : FileWeighing (weight_word count)
 weighing = record { fits = word_fits; tells = word_same }
-
--- two children
-
-both_of : (Q : ℕ → Type 0) (a b : ℕ) → Q a → Q b → All Q (a ∷ b ∷ [])
-both_of Q a b x y = All-from_recursion Q (a ∷ b ∷ []) (x, (y, tt))
-
-apart : (a b : ℕ) → a ≢ b → AllPairs {X = ℕ} ◌≢◌ (a ∷ b ∷ [])
-apart a b unlike zero (suc zero) d l m = unlike
-apart a b unlike i (suc (suc j)) d l m = absurd (omega (arith, m))
-apart a b unlike (suc i) (suc zero) d l m = absurd (omega (arith, l))
-apart a b unlike i zero d l m = absurd (omega (arith, l))
-
-neither : (a b c : ℕ) → a ≢ c → b ≢ c → ¬ Contains (a ∷ b ∷ []) c
-neither a b c x y among = All-contains (λ n. n ≢ c) (a ∷ b ∷ []) c (both_of (λ n. n ≢ c) a b x y) among refl
-
-nothing : (c : ℕ) → ¬ Contains {X = ℕ} [] c
-nothing c among = All-contains (λ n. ⊥) [] c (All-nil (λ n. ⊥)) among
 
 -- the nodes of the file, the newest first
 
@@ -72,19 +57,11 @@ four_nodes = added pipe ∷ pumps_joined
 abbrev nodes : Nodes
 nodes = joined_from Series (2 ∷ 3 ∷ []) ∷ four_nodes
 
--- one more node has no child c, and those before it have none
-unused_by : (b : Bool) (m : Making Flow Parts) (before : Option (Making Flow Parts)) (c : ℕ) →
-    ¬ Contains (named_by (Some m)) c → ¬ Contains (named_by before) c → ¬ Contains (named_by (cond b (Some m) before)) c
-unused_by true m before c here there = here
-unused_by false m before c here there = there
-
 pumps_unused : (c : ℕ) → Unused (drawn two_nodes) c
-pumps_unused c k = unused_by (1 == k) (added pump_b) _ c (nothing c) (unused_by (0 == k) (added pump_a) None c (nothing c) (nothing c))
+pumps_unused c = unused_on (drawn (added pump_a ∷ [])) c 1 (added pump_b) (unused_on [] c 0 (added pump_a) (λ k. no_one c) (no_one c)) (no_one c)
 
 unused : (c : ℕ) → 0 ≢ c → 1 ≢ c → Unused (drawn four_nodes) c
-unused c x y k =
-    unused_by (3 == k) (added pipe) _ c (nothing c)
-    (unused_by (2 == k) (joined_from Parallel (0 ∷ 1 ∷ [])) _ c (neither 0 1 c x y) (pumps_unused c k))
+unused c x y = unused_on (drawn pumps_joined) c 3 (added pipe) (unused_on (drawn two_nodes) c 2 (joined_from Parallel (0 ∷ 1 ∷ [])) (pumps_unused c) (neither x y)) (no_one c)
 
 -- each is taken after those before it
 
@@ -99,18 +76,18 @@ takes_pump_b = yes (omega arith) (yes (omega arith, omega arith) refl)
 
 takes_pumps : Next two_nodes (joined_from Parallel (0 ∷ 1 ∷ []))
 takes_pumps =
-    let named = both_of (λ c. c < 2) 0 1 (omega arith) (omega arith) in
-    let free = both_of (Unused (drawn two_nodes)) 0 1 (pumps_unused 0) (pumps_unused 1) in
-    yes (omega arith) (yes (omega arith, omega arith) (yes named (yes free (yes (apart 0 1 (omega arith)) refl))))
+    let named : All (λ c. c < 2) (0 ∷ 1 ∷ []) = both_of (λ c. c < 2) (omega arith) (omega arith) in
+    let free = both_of (Unused (drawn two_nodes)) (pumps_unused 0) (pumps_unused 1) in
+    yes (omega arith) (yes (omega arith, omega arith) (yes named (yes free (yes (apart (λ e. omega (arith, e))) refl))))
 
 takes_pipe : Next pumps_joined (added pipe)
 takes_pipe = yes (omega arith) (yes (omega arith, omega arith) refl)
 
 takes_plant : Next four_nodes (joined_from Series (2 ∷ 3 ∷ []))
 takes_plant =
-    let named = both_of (λ c. c < 4) 2 3 (omega arith) (omega arith) in
-    let free = both_of (Unused (drawn four_nodes)) 2 3 (unused 2 (omega arith) (omega arith)) (unused 3 (omega arith) (omega arith)) in
-    yes (omega arith) (yes (omega arith, omega arith) (yes named (yes free (yes (apart 2 3 (omega arith)) refl))))
+    let named : All (λ c. c < 4) (2 ∷ 3 ∷ []) = both_of (λ c. c < 4) (omega arith) (omega arith) in
+    let free = both_of (Unused (drawn four_nodes)) (unused 2 (omega arith) (omega arith)) (unused 3 (omega arith) (omega arith)) in
+    yes (omega arith) (yes (omega arith, omega arith) (yes named (yes free (yes (apart (λ e. omega (arith, e))) refl))))
 
 abbrev contents : Contents Flow Parts
 contents = record { nodes = nodes; demands = flow 3 ∷ flow 5 ∷ [] }
@@ -134,8 +111,8 @@ short_at k other few = (λ a b c d e is. absurd (other a b c d e is), few_combin
 
 short : (k : ℕ) → k < made h → ShortHere k
 short =
-    let four : 4 ≤ 64 = omega arith in
-    let eight : 8 ≤ 64 = omega arith in
+    let four : 4 ≤ TERMS = omega arith in
+    let eight : 8 ≤ TERMS = omega arith in
     below_more ShortHere 4
     (below_more ShortHere 3
     (below_more ShortHere 2
@@ -155,8 +132,8 @@ report_is : report ≡ plant_report
 unfolding report digits
 report_is = refl
 
-few : length report ≤ longest_report
-few = let enough : 99 ≤ 3328 = omega arith in subst (λ z. length z ≤ 3328) (sym report_is) enough
+few : length report ≤ LONGEST_REPORT
+few = let enough : 99 ≤ LONGEST_REPORT = omega arith in subst (λ z. length z ≤ LONGEST_REPORT) (sym report_is) enough
 
 last_row : HasRow (enumeration flow_kind.ghosts parts_weight.ghosts (states_of h) (drawing_of h 4)) plant
 last_row = row_by_computing _ _ (refl, refl, (refl, refl, (refl, refl, (refl, refl, tt))))
@@ -169,7 +146,7 @@ module _ (out : List ℕ) (r : Result ℕ Fault) (out' : List ℕ) where
       (known_report flow_laws parts_laws words weighing contents valid short plant last_row few out r out')
 
   pub plant_reported : Analysed plant_file out r out' ↔ Put plant_report out r out'
-  plant_reported = (λ x. reported.0 (as_one x), λ put. yes (omega arith, omega arith) (inl (refl, reported.1 put)))
+  plant_reported = (λ x. reported.0 (as_one x), λ put. yes (inl refl) (inl (refl, reported.1 put)))
     where
       as_one : Analysed plant_file out r out' → AnalysedAs flow_kind.ghosts parts_weight.ghosts (one_word rate) (weight_word count) out r out' (drop 1 plant_file)
       as_one (inl (listed, inl x)) = x.1
@@ -179,4 +156,4 @@ module _ (out : List ℕ) (r : Result ℕ Fault) (out' : List ℕ) where
       as_one (inl (listed, inr (inr (inr (inr (inl x)))))) = absurd (omega (arith, x.0))
       as_one (inl (listed, inr (inr (inr (inr (inr (inl x))))))) = absurd (omega (arith, x.0))
       as_one (inl (listed, inr (inr (inr (inr (inr (inr x))))))) = absurd (omega (arith, x.0))
-      as_one (inr (other, gone)) = absurd (other (omega arith, omega arith))
+      as_one (inr (other, gone)) = absurd (other (inl refl))

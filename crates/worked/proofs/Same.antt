@@ -8,6 +8,7 @@ use Rattle.kinds.specs.Named.{Flow, Parts}
 use Rattle.kinds.specs.declared.word.Word.{Word}
 use Rattle.kinds.specs.WordLaws.{word_same}
 use Rattle.terms.specs.declared.term.Term.{Term}
+use Rattle.diagram.specs.declared.limits.TheConstants.{TERMS}
 use Rattle.worked.specs.declared.answers.Answers.{Answers}
 use Rattle.worked.specs.declared.answers.Row.{Row}
 use Rattle.worked.specs.declared.lines.Need.{Need}
@@ -59,7 +60,7 @@ row_same a b e =
     let one = each (pointwise flow_term_eq a.terms b.terms) _ e in
     let terms = pointwise_same term_same a.terms b.terms one.0 in
     let len = eqb-true a.len b.len one.1 in
-    λ i. record { terms = terms i; len = len i; fits = is_prop→PathP (λ i. len i ≤ 64) (λ i. le_prop {n = len i} {m = 64}) a.fits b.fits i }
+    λ i. record { terms = terms i; len = len i; fits = is_prop→PathP (λ i. len i ≤ TERMS) (λ i. le_prop {n = len i} {m = TERMS}) a.fits b.fits i }
 
 pub answers_same : (a b : Answers) → answers_eq.ghosts.eq a b ≡ true → a ≡ b
 answers_same a b e =

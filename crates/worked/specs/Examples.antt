@@ -29,12 +29,13 @@ use Rattle.diagram.specs.declared.refusal.Refusal.TheVariants.{LongResult}
 use Rattle.diagram.specs.Refusals.{number_of}
 use Rattle.diagram.specs.Histories.{Making, added, joined_from, collecting, number, Reply}
 use Rattle.diagram.specs.RightAnswers.{RightAnswer, RowOfNode}
+use Rattle.files.specs.declared.limits.TheConstants.{LOOKED_AT}
 use Rattle.files.specs.declared.fault.Fault.{Fault}
 use Rattle.files.specs.declared.fault.Fault.TheVariants.{Model, Room}
-use Rattle.files.specs.Drawn.{drawn as made_by}
+use Rattle.diagram.specs.Makings.{drawn as made_by}
 use Rattle.files.specs.Faults.{fault_text}
 use Rattle.files.specs.Listed.{Analysed, AnsweredForC}
-use Rattle.files.specs.Printed.{looked_at, Answers}
+use Rattle.files.specs.Printed.{Answers}
 use Rattle.files.specs.Reports.{Unreported, Put}
 use Rattle.worked.specs.Plants.{drawn, redrawn}
 
@@ -257,9 +258,9 @@ pub record FileExamples : Type 0 where
       Analysed plant_file out r out' ↔ ((r ≡ Ok 99) × (out' ≡ plant_report ++ drop 99 out))
   pub plant_in_a_short_output :
       (out : List ℕ) (r : Result ℕ Fault) (out' : List ℕ) → length out < 99 → Analysed plant_file out r out' ↔ ((r ≡ Err Room) × (out' ≡ out))
-  pub plant_printed : (old new : Option (List ℕ)) → Answers (take looked_at plant_file) old new ↔ Appends old new plant_report
+  pub plant_printed : (old new : Option (List ℕ)) → Answers (take LOOKED_AT plant_file) old new ↔ Appends old new plant_report
   pub unlisted : (out : List ℕ) (r : Result ℕ Fault) (out' : List ℕ) → Analysed unlisted_file out r out' ↔ Unreported out r out' Model
   pub unlisted_text : fault_text Model ≡ codes "fault 1 255 21"
-  pub unlisted_printed : (old new : Option (List ℕ)) → Answers (take looked_at unlisted_file) old new ↔ Appends old new (line "fault 1 255 21")
+  pub unlisted_printed : (old new : Option (List ℕ)) → Answers (take LOOKED_AT unlisted_file) old new ↔ Appends old new (line "fault 1 255 21")
   pub unlisted_for_c :
       (out : List ℕ) (answer : ℤ) (out' : List ℕ) → AnsweredForC unlisted_file out answer out' ↔ ((answer ≡ neg_ℤ (pos 130837)) × (out' ≡ out))

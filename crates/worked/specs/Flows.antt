@@ -6,6 +6,7 @@ use Rattle.kinds.specs.contracts.flow.FlowPerformance.TheImpl as flow_kind
 use Rattle.kinds.specs.contracts.parts.PartsWeight.TheImpl as parts_weight
 use Rattle.terms.specs.declared.term.Term.{Term}
 use Rattle.terms.specs.declared.term.Way.TheVariants.{Parallel}
+use Rattle.diagram.specs.declared.limits.TheConstants.{STORE}
 use Rattle.diagram.specs.declared.refusal.Refusal.{Refusal}
 use Rattle.diagram.specs.declared.table.Table.{Table}
 use Rattle.diagram.specs.Calls.{Restated, Collected}
@@ -16,24 +17,20 @@ use Rattle.worked.specs.declared.plant.Drawn.{Drawn}
 use Rattle.worked.specs.declared.plant.Plant.{Plant}
 use Rattle.worked.specs.Answering.{AnswersOf}
 use Rattle.worked.specs.Examples.{◌at◌}
-use Rattle.worked.specs.Plants.{RowOfDrawing, DrawnOf, BothCollected, drawn, redrawn}
+use Rattle.worked.specs.Plants.{RowAsDrawn, DrawnOf, BothCollected, drawn, redrawn}
 use Rattle.worked.specs.Two.{OfTwo}
-
--- these are the row and the needs of this row
-abbrev pub Answered : List (Term Flow Parts) → Answers → Type 0
-Answered row a = AnswersOf row a.row a.three a.four a.five
 
 -- so answers the whole plant in this diagram
 abbrev pub PlantAnswers : Drawn Flow → List (Term Flow Parts) → Answers → Type 0
-PlantAnswers d store = Answered (row_at (records d.diagram) store d.nodes.plant)
+PlantAnswers d store = AnswersOf (row_at (records d.diagram) store d.nodes.plant)
 
 -- so answers the plant drawn the other way round, by the row of all its combinations
 abbrev pub RedrawnAnswers : Plant Flow → Answers → Type 0
-RedrawnAnswers p a = (row : List (Term Flow Parts)) × RowOfDrawing flow_kind.ghosts p redrawn row × Answered row a
+RedrawnAnswers p a = (row : List (Term Flow Parts)) × RowAsDrawn flow_kind.ghosts p redrawn row × AnswersOf row a
 
 -- what of the pumps in parallel meets a need of 3
 abbrev pub PumpsAlone : Plant Flow → Result (Parts × Parts) Refusal → Type 0
-PumpsAlone p = OfTwo flow_kind.ghosts parts_weight.ghosts Parallel p.pump_a p.pump_b (capped_word 3) 3200
+PumpsAlone p = OfTwo flow_kind.ghosts parts_weight.ghosts Parallel p.pump_a p.pump_b (capped_word 3) STORE
 
 -- pump A once it is overhauled: it stands still in 1 part of 10, and passes 5 in 9
 abbrev pub new_pump_a : List (Term Flow Parts)
@@ -42,7 +39,7 @@ new_pump_a = 0 at 1 ∷ 5 at 9 ∷ []
 -- where the plant was drawn, its row is afterwards that of all the combinations of its parts, with the new pump A
 abbrev pub Overhauled : Drawn Flow → List (Term Flow Parts) → Drawn Flow → List (Term Flow Parts) → Type 0
 Overhauled d s d' s' =
-    (p : Plant Flow) → DrawnOf flow_kind.ghosts p drawn d s → RowOfDrawing flow_kind.ghosts (record p { pump_a = new_pump_a }) drawn (row_at (records d'.diagram) s' d'.nodes.plant)
+    (p : Plant Flow) → DrawnOf flow_kind.ghosts p drawn d s → RowAsDrawn flow_kind.ghosts (record p { pump_a = new_pump_a }) drawn (row_at (records d'.diagram) s' d'.nodes.plant)
 
 -- the calls of an overhaul: pump A has new states; a collecting of the plant is refused then, and after it the pumps and the plant are collected
 pub record OverhaulCalls (d : Drawn Flow) (s : List (Term Flow Parts)) (d' : Drawn Flow) (s' : List (Term Flow Parts)) : Type 0 where

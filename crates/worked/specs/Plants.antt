@@ -1,5 +1,5 @@
 -- The plant as drawings, and what is worked out for it.
-use Rattle.std.specs.Prelude.{◌≡◌, ℕ, ◌<◌, ◌≤◌, ◌⊎◌, List, length, Ok, Err}
+use Rattle.std.specs.Prelude.{◌≡◌, ℕ, ◌<◌, ◌≤◌, ◌⊎◌, List, length, Result, Ok, Err}
 use Rattle.kinds.specs.Named.{Parts}
 use Rattle.kinds.specs.declared.performance.Performance
 use Rattle.kinds.specs.contracts.parts.PartsWeight.TheImpl as parts_weight
@@ -8,15 +8,17 @@ use Rattle.terms.specs.declared.term.Way.TheVariants.{Series, Parallel}
 use Rattle.terms.specs.Rows.{RowOf}
 use Rattle.terms.specs.Drawings.{Drawing, part, joined, one, more}
 use Rattle.terms.specs.Enumeration.{but, enumeration}
+use Rattle.diagram.specs.declared.limits.TheConstants.{STORE}
 use Rattle.diagram.specs.declared.refusal.Refusal.{Refusal}
 use Rattle.diagram.specs.declared.table.Table.{Table}
 use Rattle.diagram.specs.declared.diagram.Diagram.{Diagram}
 use Rattle.diagram.specs.Refusals.{Asked}
-use Rattle.diagram.specs.Calls.{Collected}
+use Rattle.diagram.specs.Calls.{Restated, Collected}
 use Rattle.diagram.specs.Histories.{History, made, drawing_of, states_of, Answers}
 use Rattle.diagram.specs.Runs.{Run}
 use Rattle.diagram.specs.Shown.{records}
 use Rattle.diagram.specs.Standing.{RowsStand}
+use Rattle.diagram.specs.Store.{row_at}
 use Rattle.worked.specs.declared.plant.Drawn.{Drawn}
 use Rattle.worked.specs.declared.plant.Nodes.{Nodes}
 use Rattle.worked.specs.declared.plant.Plant.{Plant}
@@ -51,8 +53,8 @@ in_order = record { pump_a = 0; pump_b = 1; pipe = 2; pumps = 3; plant = 4 }
 
 module _ {P : Type 0} (kind : Performance.Ghosts P) where
   -- this is the row of all the combinations of the plant's parts, so drawn
-  abbrev pub RowOfDrawing : Plant P → Drawing → List (Term P Parts) → Type 0
-  RowOfDrawing p d = RowOf kind parts_weight.ghosts (enumeration kind parts_weight.ghosts (states p) d)
+  abbrev pub RowAsDrawn : Plant P → Drawing → List (Term P Parts) → Type 0
+  RowAsDrawn p d = RowOf kind parts_weight.ghosts (enumeration kind parts_weight.ghosts (states p) d)
 
   -- some calls have drawn the plant so, with these states, and left this of the diagram and of the store; each node answers
   pub record DrawnOf (p : Plant P) (so : Drawing) (d : Drawn P) (s : List (Term P Parts)) : Type 0 where
@@ -79,10 +81,25 @@ module _ {P : Type 0} (kind : Performance.Ghosts P) where
       ((between : Diagram P Parts) × (left : List (Term P Parts)) × (m : ℕ) ×
       Collected kind parts_weight.ghosts t s first (Ok m) (records between) left × Collected kind parts_weight.ghosts (records between) left second (Err why) t' s')
 
+  -- the plant's node has this row
+  abbrev pub PlantRow : Plant P → Drawing → List (Term P Parts) → Drawn P → Type 0
+  PlantRow p so s d = RowAsDrawn p so (row_at (records d.diagram) s d.nodes.plant)
+
+  -- pump A has new states; the pumps and the plant are collected; one of them is refused
+  module _ (d : Drawn P) (s : List (Term P Parts)) (d' : Drawn P) (s' : List (Term P Parts)) where
+    abbrev pub PumpRestated : List (Term P Parts) → Result ℕ Refusal → Type 0
+    PumpRestated states r = Restated kind parts_weight.ghosts (records d.diagram) s d.nodes.pump_a states r (records d'.diagram) s'
+
+    abbrev pub PlantCollected : Type 0
+    PlantCollected = BothCollected (records d.diagram) s d.nodes.pumps d.nodes.plant (records d'.diagram) s'
+
+    abbrev pub PlantRefused : Refusal → Type 0
+    PlantRefused why = OneRefused (records d.diagram) s d.nodes.pumps d.nodes.plant why (records d'.diagram) s'
+
   -- The plant's five nodes, so drawn, have their rows in their places. Nothing else has changed but the working rows and the rest of these places.
   abbrev pub RowsOfPlant : Plant P → (ℕ → Drawing) → List (Term P Parts) → List (Term P Parts) → Type 0
   RowsOfPlant p drawing = RowsStand kind parts_weight.ghosts (λ k. k < 5) (λ k. enumeration kind parts_weight.ghosts (states p) (drawing k))
 
   -- what is left of the store: all of it, if it is too short, or the rows of the plant
   abbrev pub LeftByDrawing : Plant P → (ℕ → Drawing) → List (Term P Parts) → List (Term P Parts) → Type 0
-  LeftByDrawing p drawing s s' = Asked (3200 ≤ length s) (s' ≡ s) (RowsOfPlant p drawing s s')
+  LeftByDrawing p drawing s s' = Asked (STORE ≤ length s) (s' ≡ s) (RowsOfPlant p drawing s s')

@@ -8,6 +8,7 @@ use Rattle.terms.specs.Rows.{RowOf}
 use Rattle.terms.specs.Sums.{total_of, met_of}
 use Rattle.terms.specs.Combinations.{joins, combinations}
 use Rattle.terms.specs.Enumeration.{but}
+use Rattle.diagram.specs.declared.limits.TheConstants.{STORE, TERMS}
 use Rattle.diagram.specs.declared.refusal.Refusal.{Refusal}
 use Rattle.diagram.specs.declared.refusal.Refusal.TheVariants.{ShortStore, WrongStates, LongResult}
 use Rattle.diagram.specs.Refusals.{Asked}
@@ -21,12 +22,12 @@ module _ {P W : Type 0} (kind : Performance.Ghosts P) (weights : Weight.Ghosts W
 
   -- their row is no longer than a row may be
   abbrev pub ShortRow : Type 0
-  ShortRow = (row : List (Term P W)) → RowOf kind weights both row → length row ≤ 64
+  ShortRow = (row : List (Term P W)) → RowOf kind weights both row → length row ≤ TERMS
 
-  -- r is what of two parts with these states meets the demand, and the weight of everything; or the first question with a no is told
+  -- r is what of two parts with these states meets the demand, and the weight of everything; or of the first question with a no, its refusal
   abbrev pub OfTwo : P → ℕ → Result (W × W) Refusal → Type 0
   OfTwo demand lent r =
-      Asked (3200 ≤ lent) (r ≡ Err ShortStore)
+      Asked (STORE ≤ lent) (r ≡ Err ShortStore)
       (Asked (EnoughStates (length xs)) (r ≡ Err WrongStates)
       (Asked (EnoughStates (length ys)) (r ≡ Err WrongStates)
       (Asked ShortRow (r ≡ Err LongResult)
@@ -40,7 +41,7 @@ module _ {P W : Type 0} (kind : Performance.Ghosts P) (weights : Weight.Ghosts W
   -- what is left of the store, question by question: the rows of the nodes that were put before the first no
   abbrev pub LeftOfTwo : List (Term P W) → List (Term P W) → Type 0
   LeftOfTwo s s' =
-      Asked (3200 ≤ length s) (s' ≡ s)
+      Asked (STORE ≤ length s) (s' ≡ s)
       (Asked (EnoughStates (length xs)) (s' ≡ s)
       (Asked (EnoughStates (length ys)) (RowsOfTwo 1 s s')
       (Asked ShortRow (RowsOfTwo 2 s s') (RowsOfTwo 3 s s'))))

@@ -1,46 +1,45 @@
-// What a node of a diagram answers.
+//! What a node of a diagram answers.
 ghost use Rattle.std.specs.Prelude.{◌≡◌, ◌≤◌, take, IfOk};
+ghost use Rattle.diagram.specs.declared.limits.TheConstants.{TERMS};
 ghost use Rattle.diagram.specs.Shown.{records};
-ghost use Rattle.diagram.specs.Store.{row_at};
 
 use crate::lines::Need;
 use crate::plant::state;
 use diagram::diagram::Diagram;
+use diagram::limits::TERMS;
 use diagram::refusal::Refusal;
 use kinds::values::{Flow, Parts};
 use terms::term::Term;
 
-// The terms that a row of a diagram may have.
-const ROOM: usize = 64;
-
-// A row copied out of a diagram.
+/// A row copied out of a diagram.
 #[derive(Clone, Copy, PartialEq, Eq)]
 pub struct Row {
-    terms: [Term<Flow, Parts>; ROOM],
+    terms: [Term<Flow, Parts>; TERMS],
     len: usize,
-    ghost fits: { len ≤ 64 },
+    ghost fits: { len ≤ TERMS },
 }
 
 impl Row {
-    ghost use Rattle.worked.specs.Answering.{RowTold};
+    ghost use Rattle.worked.specs.Answering.{HoldsRow, RowOrRefusal};
 
-    // The row of node k, asked term by term.
+    /// The row of node k, asked term by term. It is refused as a question about the node is.
     pub fn of(
         diagram: &Diagram<Flow, Parts>,
         store: &[Term<Flow, Parts>],
         k: usize,
     ) -> Result<Row, Refusal>
-        ensures row { IfOk result (λ r. take r.len r.terms ≡ row_at (records diagram.now) store.now k) }
-        ensures told { RowTold (records diagram.now) store.now k result }
+        ensures row { IfOk result (HoldsRow (records diagram.now) store.now k) }
+        ensures refusals { RowOrRefusal (records diagram.now) store.now k result }
     {
         let len = diagram.size(store, k)?;
-        let mut terms = [state(0, 0); ROOM];
+        let mut terms = [state(0, 0); TERMS];
         for i in 0..len {
             terms[i] = diagram.term(store, k, i)?;
         }
         Ok(Row { terms, len })
     }
 
+    /// The terms, in their order.
     pub fn terms(&self) -> &[Term<Flow, Parts>]
         ensures { result.now ≡ take self.now.len self.now.terms }
     {
@@ -48,7 +47,7 @@ impl Row {
     }
 }
 
-// The row of a node, and what of it meets a need of 3, of 4 and of 5.
+/// The row of a node, and what of it meets a need of 3, of 4 and of 5.
 #[derive(Clone, Copy, PartialEq, Eq)]
 pub struct Answers {
     pub row: Row,
@@ -58,15 +57,16 @@ pub struct Answers {
 }
 
 impl Answers {
-    ghost use Rattle.worked.specs.Answering.{AnswersOf, AnswersTold};
+    ghost use Rattle.worked.specs.Answering.{AreAnswers, AnswersOrRefusal};
 
+    /// What node k answers. It is refused as a question about the node is.
     pub fn of(
         diagram: &Diagram<Flow, Parts>,
         store: &[Term<Flow, Parts>],
         k: usize,
     ) -> Result<Answers, Refusal>
-        ensures answers { IfOk result (λ a. AnswersOf (row_at (records diagram.now) store.now k) a.row a.three a.four a.five) }
-        ensures told { AnswersTold (records diagram.now) store.now k result }
+        ensures answers { IfOk result (AreAnswers (records diagram.now) store.now k) }
+        ensures refusals { AnswersOrRefusal (records diagram.now) store.now k result }
     {
         Ok(Answers {
             row: Row::of(diagram, store, k)?,

@@ -1,4 +1,4 @@
-// A kind brought from outside the library: a part is up or down.
+//! A kind brought from outside the library: a part is up or down.
 ghost use Rattle.std.specs.Prelude.{false};
 ghost use Rattle.worked.specs.Binaries.{binary_compared, both, either, binary_bridge, binary_meets};
 ghost use Rattle.std.proofs.Common.{rules};

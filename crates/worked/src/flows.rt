@@ -1,15 +1,17 @@
-// The plant by what flows through it.
+//! The plant by what flows through it.
 ghost use Rattle.std.specs.Prelude.{◌≡◌, IfOk};
 ghost use Rattle.diagram.specs.Shown.{records};
 ghost use Rattle.worked.specs.Examples.{pump_a, pump_b, pipe};
-ghost use Rattle.worked.specs.Flows.{PlantAnswers, RedrawnAnswers, PumpsAlone, Overhauled, OverhaulCalls};
+ghost use Rattle.worked.specs.Flows.{PlantAnswers, RedrawnAnswers, PumpsAlone};
+ghost use Rattle.worked.specs.Flows.{Overhauled, OverhaulCalls};
 
 use crate::answers::{Answers, Row};
 use crate::lines::Line;
-use crate::plant::{Drawn, Plant, STORE, state};
-use crate::refusals::{refused, told};
+use crate::plant::{Drawn, Plant, state};
+use crate::refusals::{accepted, refused};
 use crate::two::availability_of_two;
 use anyhow::ensure;
+use diagram::limits::STORE;
 use diagram::refusal::Refusal;
 use diagram::theorems::runs_are_right;
 use kinds::values::{Flow, Parts};
@@ -32,7 +34,7 @@ pub(crate) fn flow_plant(rt: &HostRuntime) -> anyhow::Result<()> {
     let parts = parts();
     show_parts(rt, &parts)?;
     let mut store = [state(0, 0); STORE];
-    let mut drawn = told(parts.draw(&mut store), "drawing the plant")?;
+    let mut drawn = accepted(parts.draw(&mut store), "drawing the plant")?;
     rt.println("Worked out:")?;
     let answers = show_answers(rt, &drawn, &store)?;
     pumps_at_once(rt, &parts)?;
@@ -54,9 +56,9 @@ fn show_answers(rt: &HostRuntime, drawn: &Drawn<Flow>, store: &[State]) -> anyho
     ensures { IfOk result (PlantAnswers drawn.now store.now) }
 {
     let (diagram, nodes) = (&drawn.diagram, drawn.nodes);
-    let pumps = told(Row::of(diagram, store, nodes.pumps), "asking the pumps")?;
+    let pumps = accepted(Row::of(diagram, store, nodes.pumps), "asking the pumps")?;
     rt.println(Line::new("both pumps", pumps.terms()))?;
-    let plant = told(Answers::of(diagram, store, nodes.plant), "asking the plant")?;
+    let plant = accepted(Answers::of(diagram, store, nodes.plant), "asking the plant")?;
     rt.println(Line::new("the plant ", plant.row.terms()))?;
     rt.println(plant.three)?;
     rt.println(plant.four)?;
@@ -74,7 +76,7 @@ fn pumps_alone(parts: &Plant<Flow>) -> Result<(Parts, Parts), Refusal>
 }
 
 fn pumps_at_once(rt: &HostRuntime, parts: &Plant<Flow>) -> anyhow::Result<()> {
-    let (met, all) = told(pumps_alone(parts), "asking the pumps at once")?;
+    let (met, all) = accepted(pumps_alone(parts), "asking the pumps at once")?;
     println!(rt; "the pumps alone meet a need of 3 in {met} of {all} parts")?;
     Ok(())
 }
@@ -84,7 +86,7 @@ fn second_drawing(rt: &HostRuntime, parts: &Plant<Flow>) -> anyhow::Result<Answe
     ensures { IfOk result (RedrawnAnswers parts.now) }
 {
     let mut store = [state(0, 0); STORE];
-    let drawn = told(parts.redraw(&mut store), "drawing it again")?;
+    let drawn = accepted(parts.redraw(&mut store), "drawing it again")?;
     rt.println("Drawn the other way round, the pipe first and the pumps exchanged:")?;
     show_answers(rt, &drawn, &store)
 }
@@ -106,7 +108,7 @@ fn overhaul(rt: &HostRuntime, drawn: &mut Drawn<Flow>, store: &mut [State]) -> a
     // What holds of every run of calls: this diagram was made elsewhere.
     runs_are_right::<Flow, Parts>();
     let states = [state(0, 1), state(5, 9)];
-    told(drawn.overhaul(store, &states), "restating pump A")?;
+    accepted(drawn.overhaul(store, &states), "restating pump A")?;
     rt.println("Pump A is overhauled:")?;
     rt.println(Line::new("pump A    ", &states))?;
     let why = refused(
@@ -117,7 +119,7 @@ fn overhaul(rt: &HostRuntime, drawn: &mut Drawn<Flow>, store: &mut [State]) -> a
     let early = drawn.diagram.collect(store, drawn.nodes.plant);
     let why = refused(early, "working out over stale pumps")?;
     println!(rt; "the plant worked out before the pumps: {why}")?;
-    told(drawn.collect(store), "working it out again")?;
+    accepted(drawn.collect(store), "working it out again")?;
     rt.println("Worked out again:")?;
     show_answers(rt, drawn, store)?;
     Ok(())

@@ -1,19 +1,15 @@
-// The lines that the program prints.
+//! The lines that the program prints.
 ghost use Rattle.std.specs.Prelude.{◌≡◌, ◌++◌, Some, IfOk};
 ghost use Rattle.diagram.specs.Shown.{records};
-ghost use Rattle.diagram.specs.Store.{row_at};
-ghost use Rattle.terms.specs.Sums.{met_of, total_of};
-ghost use Rattle.worked.specs.Lines.{row_text, need_text, demand_text};
+ghost use Rattle.worked.specs.Lines.{row_text, need_text};
 
 use diagram::diagram::Diagram;
 use diagram::refusal::Refusal;
-use kinds::performance::Performance;
 use kinds::values::{Flow, Parts};
-use kinds::weight::Weight;
 use std::fmt;
 use terms::term::Term;
 
-// A row after its name.
+/// A row after its name.
 #[derive(Drop)]
 pub struct Line<'a> {
     name: &'a str,
@@ -21,6 +17,7 @@ pub struct Line<'a> {
 }
 
 impl<'a> Line<'a> {
+    /// The line of this row.
     pub fn new(name: &'a str, row: &'a [Term<Flow, Parts>]) -> Line<'a>
         ensures name { result.name.now ≡ name.now }
         ensures row { result.row.now ≡ row.now }
@@ -41,7 +38,7 @@ impl fmt::Display for Line<'_> {
     }
 }
 
-// What of a node's row meets a demand.
+/// What of a node's row meets a demand, in parts of the whole.
 #[derive(Clone, Copy, PartialEq, Eq)]
 pub struct Need {
     demand: Flow,
@@ -50,9 +47,9 @@ pub struct Need {
 }
 
 impl Need {
-    ghost use Rattle.worked.specs.Answering.{NeedTold};
+    ghost use Rattle.worked.specs.Answering.{IsMet, IsTotal, HasText, NeedOrRefusal};
 
-    // As node k of the diagram answers it.
+    /// As node k of the diagram answers it. It is refused as a question about the node is.
     pub fn of(
         demand: Flow,
         diagram: &Diagram<Flow, Parts>,
@@ -60,10 +57,10 @@ impl Need {
         k: usize,
     ) -> Result<Need, Refusal>
         ensures demand { IfOk result (λ n. n.demand ≡ demand) }
-        ensures met { IfOk result (λ n. n.met ≡ met_of ⟦<Flow as Performance>⟧ ⟦<Parts as Weight>⟧ demand (row_at (records diagram.now) store.now k)) }
-        ensures all { IfOk result (λ n. n.all ≡ total_of ⟦<Parts as Weight>⟧ (row_at (records diagram.now) store.now k)) }
-        ensures text { IfOk result (λ n. need_text n.demand n.met n.all ≡ demand_text demand (row_at (records diagram.now) store.now k)) }
-        ensures told { NeedTold (records diagram.now) store.now k demand result }
+        ensures met { IfOk result (IsMet (records diagram.now) store.now k demand) }
+        ensures all { IfOk result (IsTotal (records diagram.now) store.now k) }
+        ensures text { IfOk result (HasText (records diagram.now) store.now k demand) }
+        ensures refusals { NeedOrRefusal (records diagram.now) store.now k demand result }
     {
         let (met, all) = diagram.availability(store, k, demand)?;
         Ok(Need { demand, met, all })

@@ -1,8 +1,9 @@
-// A small plant from start to end: two pumps in parallel, then a pipe in series.
+//! A small plant from start to end: two pumps in parallel, then a pipe in series.
 #![tactic(auto)]
 
-use plant::{Plant, STORE, weighed};
-use refusals::told;
+use diagram::limits::STORE;
+use plant::{Plant, weighed};
+use refusals::accepted;
 use service::Service;
 
 mod answers;
@@ -23,11 +24,11 @@ fn binary_plant(rt: &HostRuntime) -> anyhow::Result<()> {
         pipe: [weighed(Service::Up, 7), weighed(Service::Down, 3)],
     };
     let mut store = [weighed(Service::Down, 0); STORE];
-    let drawn = told(parts.draw(&mut store), "drawing the plant")?;
+    let drawn = accepted(parts.draw(&mut store), "drawing the plant")?;
     let answer = drawn
         .diagram
         .availability(&store, drawn.nodes.plant, Service::Up);
-    let (up, all) = told(answer, "asking the plant")?;
+    let (up, all) = accepted(answer, "asking the plant")?;
     println!(rt; "as a plant that is up or down, it is up in {up} of {all} parts")?;
     Ok(())
 }

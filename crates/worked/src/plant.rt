@@ -1,4 +1,4 @@
-// A plant of two pumps and a pipe, drawn in a diagram.
+//! A plant of two pumps and a pipe, drawn in a diagram.
 ghost use Rattle.std.specs.Prelude.{◌≡◌};
 ghost use Rattle.kinds.specs.Holding.{Holds};
 ghost use Rattle.kinds.specs.Words.{number};
@@ -7,13 +7,9 @@ use diagram::diagram::Diagram;
 use diagram::refusal::Refusal;
 use kinds::performance::Performance;
 use kinds::values::{Flow, Parts};
-use kinds::weight::Weight;
 use terms::term::{Term, Way};
 
-// How many terms a diagram is lent. The libraries allocate nothing: a diagram works in an array of its caller's.
-pub const STORE: usize = 3200;
-
-// The states of two pumps and a pipe.
+/// The states of two pumps and a pipe.
 #[derive(Drop)]
 pub struct Plant<P> {
     pub pump_a: [Term<P, Parts>; 2],
@@ -21,7 +17,7 @@ pub struct Plant<P> {
     pub pipe: [Term<P, Parts>; 2],
 }
 
-// The numbers of the plant's nodes: its parts, both pumps, and the whole.
+/// The numbers of the plant's nodes: its parts, both pumps, and the whole.
 #[derive(Clone, Copy)]
 pub struct Nodes {
     pub pump_a: usize,
@@ -31,14 +27,14 @@ pub struct Nodes {
     pub plant: usize,
 }
 
-// The plant in a diagram.
+/// The plant in a diagram.
 #[derive(Drop)]
 pub struct Drawn<P> {
     pub diagram: Diagram<P, Parts>,
     pub nodes: Nodes,
 }
 
-// A performance that `count` parts of the whole have.
+/// A performance that `count` parts of the whole have.
 pub fn weighed<P: Copy>(performance: P, count: u32) -> Term<P, Parts>
     ensures performance { result.performance ≡ performance }
     ensures weight { Holds number count result.weight }
@@ -49,7 +45,7 @@ pub fn weighed<P: Copy>(performance: P, count: u32) -> Term<P, Parts>
     }
 }
 
-// `count` parts of the whole pass `rate`.
+/// `count` parts of the whole pass `rate`.
 pub fn state(rate: u32, count: u32) -> Term<Flow, Parts>
     ensures performance { Holds number rate result.performance }
     ensures weight { Holds number count result.weight }
@@ -59,15 +55,15 @@ pub fn state(rate: u32, count: u32) -> Term<Flow, Parts>
 
 impl<P: Performance> Plant<P> {
     ghost use Rattle.std.specs.Prelude.{IfOk};
-    ghost use Rattle.diagram.specs.Shown.{records};
-    ghost use Rattle.diagram.specs.Store.{row_at};
-    ghost use Rattle.worked.specs.Plants.{RowOfDrawing, DrawnOf, LeftByDrawing, drawn, redrawn, each_drawn, each_redrawn, in_order};
+    ghost use Rattle.worked.specs.Plants.{DrawnOf, PlantRow, LeftByDrawing, in_order};
+    ghost use Rattle.worked.specs.Plants.{drawn, redrawn, each_drawn, each_redrawn};
 
-    // Draws the plant and works it out: the pumps in parallel, then the pipe in series.
+    /// Draws the plant and works it out: the pumps in parallel, then the pipe in series.
+    /// A store of fewer than `STORE` terms is refused.
     pub fn draw(&self, store: &mut [Term<P, Parts>]) -> Result<Drawn<P>, Refusal>
         ensures calls { IfOk result (λ d. DrawnOf P.Performance self.now drawn d store.new) }
         ensures nodes { IfOk result (λ d. d.nodes ≡ in_order) }
-        ensures row { IfOk result (λ d. RowOfDrawing P.Performance self.now drawn (row_at (records d.diagram) store.new d.nodes.plant)) }
+        ensures row { IfOk result (PlantRow P.Performance self.now drawn store.new) }
         ensures left { LeftByDrawing P.Performance self.now each_drawn store.old store.new }
     {
         let mut diagram = Diagram::new(store)?;
@@ -88,11 +84,11 @@ impl<P: Performance> Plant<P> {
         Ok(Drawn { diagram, nodes })
     }
 
-    // The same the other way round: the pipe, then the pumps, exchanged.
+    /// The same the other way round: the pipe, then the pumps, exchanged.
     pub fn redraw(&self, store: &mut [Term<P, Parts>]) -> Result<Drawn<P>, Refusal>
         ensures calls { IfOk result (λ d. DrawnOf P.Performance self.now redrawn d store.new) }
         ensures nodes { IfOk result (λ d. d.nodes ≡ in_order) }
-        ensures row { IfOk result (λ d. RowOfDrawing P.Performance self.now redrawn (row_at (records d.diagram) store.new d.nodes.plant)) }
+        ensures row { IfOk result (PlantRow P.Performance self.now redrawn store.new) }
         ensures left { LeftByDrawing P.Performance self.now each_redrawn store.old store.new }
     {
         let mut diagram = Diagram::new(store)?;
@@ -117,26 +113,27 @@ impl<P: Performance> Plant<P> {
 
 impl<P: Performance> Drawn<P> {
     ghost use Rattle.std.specs.Prelude.{IfOk, IfErr};
-    ghost use Rattle.diagram.specs.Shown.{records};
-    ghost use Rattle.diagram.specs.Calls.{Restated};
-    ghost use Rattle.worked.specs.Plants.{BothCollected, OneRefused};
+    ghost use Rattle.worked.specs.Plants.{PumpRestated, PlantCollected, PlantRefused};
 
-    // Gives pump A new states, which leaves the pumps and the plant stale.
+    /// Gives pump A new states, which leaves the pumps and the plant stale.
     pub fn overhaul(
         &mut self,
         store: &mut [Term<P, Parts>],
         states: &[Term<P, Parts>],
     ) -> Result<usize, Refusal>
-        ensures restated { Restated P.Performance ⟦<Parts as Weight>⟧ (records self.old.diagram) store.old self.old.nodes.pump_a states.now result (records self.new.diagram) store.new }
+        ensures restated { PumpRestated P.Performance
+            self.old store.old self.new store.new states.now result }
         ensures nodes { self.new.nodes ≡ self.old.nodes }
     {
         self.diagram.restate(store, self.nodes.pump_a, states)
     }
 
-    // Works out the pumps, then the plant.
+    /// Works out the pumps, then the plant. The first refusal ends it.
     pub fn collect(&mut self, store: &mut [Term<P, Parts>]) -> Result<(), Refusal>
-        ensures collected { IfOk result (λ _. BothCollected P.Performance (records self.old.diagram) store.old self.old.nodes.pumps self.old.nodes.plant (records self.new.diagram) store.new) }
-        ensures refused { IfErr result (λ why. OneRefused P.Performance (records self.old.diagram) store.old self.old.nodes.pumps self.old.nodes.plant why (records self.new.diagram) store.new) }
+        ensures collected { IfOk result (λ _. PlantCollected P.Performance
+            self.old store.old self.new store.new) }
+        ensures refused { IfErr result (PlantRefused P.Performance
+            self.old store.old self.new store.new) }
         ensures nodes { self.new.nodes ≡ self.old.nodes }
     {
         self.diagram.collect(store, self.nodes.pumps)?;

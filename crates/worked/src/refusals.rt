@@ -1,4 +1,4 @@
-// Refusals in words, and as errors of the program.
+//! Refusals in words, and as errors of the program.
 ghost use Rattle.std.specs.Prelude.{◌≡◌, MatchResult, Ok, Err, Some};
 ghost use Rattle.worked.specs.Refusals.{words_of, refusal_text};
 
@@ -6,7 +6,7 @@ use anyhow::{anyhow, bail};
 use diagram::refusal::Refusal;
 use std::fmt;
 
-// A refusal as a sentence with its number.
+/// A refusal as a sentence with its number.
 #[derive(Clone, Copy)]
 pub struct Reason {
     refusal: Refusal,
@@ -44,14 +44,14 @@ fn words(refusal: Refusal) -> &'static str
     }
 }
 
-// What is answered; a refusal becomes an error, `what` saying of what.
-pub fn told<T: Drop>(answer: Result<T, Refusal>, what: &str) -> anyhow::Result<T>
+/// What is answered; a refusal becomes an error, `what` saying of what.
+pub fn accepted<T: Drop>(answer: Result<T, Refusal>, what: &str) -> anyhow::Result<T>
     ensures { MatchResult result (λ x. answer ≡ Ok x) (λ _. (e : Refusal) × (answer ≡ Err e)) }
 {
     answer.map_err(|refusal| anyhow!("{what}: {}", Reason { refusal }))
 }
 
-// Why a call was refused; that it was accepted becomes an error.
+/// Why a call was refused; that it was accepted becomes an error.
 pub fn refused<T: Drop>(answer: Result<T, Refusal>, what: &str) -> anyhow::Result<Reason>
     ensures { MatchResult result (λ r. answer ≡ Err r.refusal) (λ _. (x : T) × (answer ≡ Ok x)) }
 {

@@ -1,4 +1,4 @@
-// A part runs or does not.
+/// A part runs or does not.
 #[derive(Clone, Copy, PartialEq, Eq, PartialOrd, Ord)]
 pub enum Service {
     Down,

@@ -4,8 +4,8 @@ use Rattle.terms.specs.declared.term.Term.{Term}
 use Rattle.diagram.specs.declared.refusal.Refusal.{Refusal}
 use Rattle.diagram.specs.Calls.{Restated, Collected}
 use Rattle.diagram.specs.Shown.{records}
-use Rattle.grades.specs.contracts.grading.GradePerformance.TheImpl.{ghosts as grades}
-use Rattle.grades.specs.contracts.batching.BatchesWeight.TheImpl.{ghosts as batches}
+use Rattle.grades.specs.contracts.grade_kind.GradePerformance.TheImpl.{ghosts as grade_kind}
+use Rattle.grades.specs.contracts.batches_weight.BatchesWeight.TheImpl.{ghosts as batches_weight}
 use Rattle.grades.specs.declared.batches.Batches.{Batches}
 use Rattle.grades.specs.declared.grade.Grade.{Grade}
 use Rattle.grades.specs.Plants.{Retooled}
@@ -24,14 +24,14 @@ returns-clause-calls c =
     let calls : Retooled c.args.plant.now c.args.store.now c.collect-2.new.self c.collect-2.new.store = record {
       states = new;
       new = λ i. (one.0 i, one.1 i) ∷ (two.0 i, two.1 i) ∷ [];
-      n = c.in_ok-told.field-0;
+      n = c.in_ok-accepted.field-0;
       stale = records c.restate.new.self;
       left = c.restate.new.store;
-      restated = subst (λ (r : Result ℕ Refusal). Restated grades batches (records c.args.plant.now.diagram) c.args.store.now c.args.plant.now.first new r (records c.restate.new.self) c.restate.new.store) c.in_ok-told.ensures c.restate.ensures;
+      restated = subst (λ (r : Result ℕ Refusal). Restated grade_kind batches_weight (records c.args.plant.now.diagram) c.args.store.now c.args.plant.now.first new r (records c.restate.new.self) c.restate.new.store) c.in_ok-accepted.ensures c.restate.ensures;
       why = c.in_ok-early.ensures.0;
       as_stale = records c.collect.new.self;
       kept = c.collect.new.store;
-      early = subst (λ (r : Result ℕ Refusal). Collected grades batches (records c.restate.new.self) c.restate.new.store c.args.plant.now.whole r (records c.collect.new.self) c.collect.new.store) c.in_ok-early.ensures.1 c.collect.ensures;
-      again = IfOk-at_ok _ c.in_ok-told-2.ensures c.collect-2.ensures.collected;
+      early = subst (λ (r : Result ℕ Refusal). Collected grade_kind batches_weight (records c.restate.new.self) c.restate.new.store c.args.plant.now.whole r (records c.collect.new.self) c.collect.new.store) c.in_ok-early.ensures.1 c.collect.ensures;
+      again = IfOk-at_ok _ c.in_ok-accepted-2.ensures c.collect-2.ensures.collected;
     } in
     always _ calls

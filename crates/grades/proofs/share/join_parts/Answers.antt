@@ -1,5 +1,5 @@
 use Rattle.std.proofs.Common.{refl, sym, Ok}
-use Rattle.grades.proofs.Going.{ok_not_err, ok_same}
+use Rattle.diagram.proofs.RunGoesOn.{ok_not_err, ok_same}
 use Rattle.grades.proofs.Working.{lines_joined, whole_joined}
 use Rattle.grades.proofs.share.join_parts.Goals as goal
 

@@ -2,14 +2,14 @@ use Rattle.std.proofs.Common.{List, length, refl, sym, ap, Ok}
 use Rattle.terms.specs.declared.term.Term.{Term}
 use Rattle.diagram.specs.declared.diagram.Diagram.{Diagram}
 use Rattle.diagram.specs.Runs.{Run}
-use Rattle.files.specs.Drawn.{history_of}
-use Rattle.grades.specs.contracts.grading.GradePerformance.TheImpl.{ghosts as grades}
-use Rattle.grades.specs.contracts.batching.BatchesWeight.TheImpl.{ghosts as batches}
+use Rattle.diagram.specs.Makings.{history_of}
+use Rattle.grades.specs.contracts.grade_kind.GradePerformance.TheImpl.{ghosts as grade_kind}
+use Rattle.grades.specs.contracts.batches_weight.BatchesWeight.TheImpl.{ghosts as batches_weight}
 use Rattle.grades.specs.declared.batches.Batches.{Batches}
 use Rattle.grades.specs.declared.grade.Grade.{Grade}
 use Rattle.grades.specs.declared.share.Joined.{Joined}
-use Rattle.grades.specs.Steps.{parts_made}
-use Rattle.grades.proofs.Going.{ok_not_err, ok_same}
+use Rattle.grades.specs.Building.{parts_made}
+use Rattle.diagram.proofs.RunGoesOn.{ok_not_err, ok_same}
 use Rattle.grades.proofs.Leaving.{all_left}
 use Rattle.grades.proofs.Working.{lines_collected, whole_collected}
 use Rattle.grades.proofs.share.work_out.Goals as goal
@@ -19,7 +19,7 @@ Terms = List (Term Grade Batches)
 
 -- these are the parts of the diagram, and nothing else was called
 abbrev Drawn : Terms → Terms → Terms → Diagram Grade Batches → Terms → Type 0
-Drawn first second finishing d s = Run grades batches (history_of (length s) (parts_made first second finishing)) d s
+Drawn first second finishing d s = Run grade_kind batches_weight (history_of (length s) (parts_made first second finishing)) d s
 
 -- none of the calls is refused
 pub returns-in_err-joined : goal.returns-in_err-joined

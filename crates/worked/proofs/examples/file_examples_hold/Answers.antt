@@ -1,23 +1,33 @@
 use Rattle.std.proofs.Common.{◌≡◌, ◌↔◌, ℕ, ◌<◌, ◌≤◌, List, [], ◌∷◌, ◌++◌, length, Result, Err, codes, refl, ap, ◌∙◌, subst, inl, inr, arith}
 use Rattle.std.specs.Fmt.{digits}
 use Rattle.std.specs.Io.KnownBytes.{Appends}
+use Rattle.files.specs.declared.limits.TheConstants.{LONGEST_REPORT}
 use Rattle.files.specs.declared.fault.Fault.{Fault}
 use Rattle.files.specs.declared.fault.Fault.TheVariants.{Model, Room}
 use Rattle.files.specs.Faults.{fault_text, answer_for_c}
-use Rattle.files.specs.Listed.{Analysed}
+use Rattle.files.specs.Listed.{Listed, Analysed}
 use Rattle.files.specs.Printed.{Answers}
 use Rattle.files.specs.Reports.{Unreported, Put}
 use Rattle.files.proofs.Known.{report_printed, fault_printed}
 use Rattle.worked.specs.Examples.{plant_file, plant_report, unlisted_file}
-use Rattle.worked.proofs.Going.{yes, granted}
+use Rattle.diagram.proofs.RunGoesOn.{yes, granted}
 use Rattle.worked.proofs.PlantFile.{plant_reported}
 use Rattle.worked.proofs.examples.file_examples_hold.Goals as goal
 
+not_listed : ¬ Listed unlisted_file
+not_listed (inl e) = omega (arith, e)
+not_listed (inr (inl e)) = omega (arith, e)
+not_listed (inr (inr (inl e))) = omega (arith, e)
+not_listed (inr (inr (inr (inl e)))) = omega (arith, e)
+not_listed (inr (inr (inr (inr (inl e))))) = omega (arith, e)
+not_listed (inr (inr (inr (inr (inr (inl e)))))) = omega (arith, e)
+not_listed (inr (inr (inr (inr (inr (inr e)))))) = omega (arith, e)
+
 unlisted : (out : List ℕ) (r : Result ℕ Fault) (out' : List ℕ) → Analysed unlisted_file out r out' ↔ Unreported out r out' Model
-unlisted out r out' = (gone, λ u. inr (λ l. omega (arith, l.1), u))
+unlisted out r out' = (gone, λ u. inr (not_listed, u))
   where
     gone : Analysed unlisted_file out r out' → Unreported out r out' Model
-    gone (inl x) = absurd (omega (arith, x.0.1))
+    gone (inl x) = absurd (not_listed x.0)
     gone (inr x) = x.1
 
 unlisted_text : fault_text Model ≡ codes "fault 1 255 21"
@@ -42,7 +52,7 @@ returns c = record {
     λ x. let gone = no_room plant_report out r out' short ((plant_reported out r out').0 x) in (gone.answer, gone.output),
     λ x. (plant_reported out r out').1 (inr (λ long. omega (arith, long, short), record { answer = x.0; output = x.1 })),
   );
-  plant_printed = λ old new. let few : 99 ≤ 3328 = omega arith in report_printed plant_file old new plant_report few plant_reported;
+  plant_printed = λ old new. let few : 99 ≤ LONGEST_REPORT = omega arith in report_printed plant_file old new plant_report few plant_reported;
   unlisted = unlisted;
   unlisted_text = unlisted_text;
   unlisted_printed = λ old new. subst (λ text. Answers unlisted_file old new ↔ Appends old new (text ++ 10 ∷ [])) unlisted_text (fault_printed unlisted_file old new Model unlisted);

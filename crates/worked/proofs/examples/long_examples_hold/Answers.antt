@@ -6,8 +6,9 @@ use Rattle.kinds.proofs.FlowLaws.{flow_laws}
 use Rattle.kinds.proofs.PartsLaws.{parts_laws}
 use Rattle.terms.specs.declared.term.Term.{Term}
 use Rattle.terms.specs.declared.term.Way.TheVariants.{Parallel}
+use Rattle.diagram.specs.declared.limits.TheConstants.{TERMS}
 use Rattle.diagram.specs.Histories.{Making, added, making_of, drawing_of, states_of, IsPart}
-use Rattle.files.specs.Drawn.{drawn}
+use Rattle.diagram.specs.Makings.{drawn}
 use Rattle.worked.specs.Examples.{by_steps, one_each, ones, eights, nine_eights, two_joined, three_joined, NodeRow}
 use Rattle.worked.proofs.Collecting.{few_combinations, accepted_with, refused_with}
 use Rattle.worked.proofs.Computed.{row_by_numbers}
@@ -42,8 +43,8 @@ three_parts nodes a b c x y z = All-cons (IsPart (drawn nodes)) 0 (1 ∷ 2 ∷ [
 
 pub returns : goal.returns
 returns c =
-    let few : 64 ≤ 64 = omega arith in
-    let many : 64 < 72 = omega arith in record {
+    let few : 64 ≤ TERMS = omega arith in
+    let many : TERMS < 72 = omega arith in record {
       sixty_four_sums = sixty_four_row;
       sixty_four_terms =
           accepted_with flow_laws parts_laws (drawn sixty_four) 2 Parallel (0 ∷ 1 ∷ []) (omega arith) refl (two_parts sixty_four ones eights refl refl)

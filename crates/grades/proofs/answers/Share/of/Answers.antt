@@ -1,7 +1,7 @@
 -- What is answered of the availability is answered of the share.
 use Rattle.std.proofs.Common.{ap}
 use Rattle.grades.specs.Lines.{share_text}
-use Rattle.grades.proofs.Going.{yes, given, ok_same}
+use Rattle.diagram.proofs.RunGoesOn.{yes, given, ok_same}
 use Rattle.grades.proofs.answers.Share.of.Goals as goal
 
 pub returns : goal.returns

@@ -1,7 +1,7 @@
 use Rattle.std.proofs.Common.{◌≡◌, ℕ, Option, Some, None, sym, ◌∙◌, arith}
-use Rattle.files.specs.Values.{Found}
+use Rattle.files.specs.Finding.{Found}
 use Rattle.grades.specs.declared.grade.Grade.{Grade}
-use Rattle.grades.specs.Grades.{grade_number}
+use Rattle.grades.specs.GradeKind.{grade_number}
 use Rattle.grades.proofs.words.GradeFilePerformance.of_words.Goals as goal
 
 -- the grade of the second word is what the two words write

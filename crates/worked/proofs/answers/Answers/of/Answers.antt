@@ -2,7 +2,7 @@ use Rattle.std.proofs.Common.{refl}
 use Rattle.kinds.specs.Words.{capped_word}
 use Rattle.diagram.specs.Shown.{records}
 use Rattle.diagram.specs.Store.{row_at}
-use Rattle.worked.proofs.Going.{yes, given}
+use Rattle.diagram.proofs.RunGoesOn.{yes, given}
 use Rattle.worked.proofs.Needs.{need_is}
 use Rattle.worked.proofs.answers.Answers.of.Goals as goal
 
@@ -19,9 +19,9 @@ returns-clause-answers c =
     )
 
 -- the first question asks all that the others ask
-pub returns-clause-told : goal.returns-clause-told
-returns-clause-told c =
-    let roomy = given c.in_ok-of.ensures.told in
+pub returns-clause-refusals : goal.returns-clause-refusals
+returns-clause-refusals c =
+    let roomy = given c.in_ok-of.ensures.refusals in
     let node = given roomy.1 in
     let current = given node.1 in
     yes roomy.0 (yes node.0 (yes current.0 (returns-clause-answers c)))

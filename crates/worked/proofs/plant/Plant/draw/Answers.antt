@@ -1,6 +1,7 @@
-use Rattle.std.proofs.Common.{[], ◌∷◌, refl, arith, rules}
+use Rattle.std.proofs.Common.{[], ◌∷◌, sym, refl, arith, rules}
 use Rattle.kinds.proofs.Lawful.{lawful_kind}
-use Rattle.worked.proofs.Drawing.{TwoEach, Names, pipe_taken, pumps_taken, plant_taken, pumps_worked_out, plant_worked_out, worked_out, few, short, below_five}
+use Rattle.diagram.proofs.RunGoesOn.{ok_not_err}
+use Rattle.worked.proofs.Drawing.{TwoEach, Names, pipe_added, pumps_joined, plant_joined, pumps_collected, plant_collected, worked_out, few, short, below_five}
 use Rattle.worked.specs.Plants.{pumps_drawn, drawn, each_drawn}
 use Rattle.worked.proofs.plant.Plant.draw.Goals as goal
 
@@ -21,44 +22,47 @@ names = record {
 pub returns-in_err-pipe-clause-left : goal.returns-in_err-pipe-clause-left
 returns-in_err-pipe-clause-left g c =
     let two : TwoEach c.args.self.now = record { pump_a = search rules; pump_b = search rules; pipe = search rules } in
-    absurd (pipe_taken g.P.Performance (lawful_kind g.met.P.Performance) c.in_ok-diagram.ensures.answers_right c.args.self.now two c.in_ok-diagram.diagram c.args.store.now c.in_ok-diagram.ensures.made
+    absurd (ok_not_err (sym (pipe_added g.P.Performance (lawful_kind g.met.P.Performance) c.in_ok-diagram.ensures.answers_right c.args.self.now two c.in_ok-diagram.diagram c.args.store.now c.in_ok-diagram.ensures.made
     _ _ c.add.new.self c.add-2.new.self c.add.new.store c.add-2.new.store c.in_ok-pump_a.ensures c.in_ok-pump_b.ensures
-    c.add-3.new.self c.add-3.new.store _ c.in_err-pipe.ensures)
+    c.add-3.new.self c.add-3.new.store _ c.in_err-pipe.ensures).0))
 
 pub returns-in_err-pumps-clause-left : goal.returns-in_err-pumps-clause-left
 returns-in_err-pumps-clause-left g c =
     let two : TwoEach c.args.self.now = record { pump_a = search rules; pump_b = search rules; pipe = search rules } in
-    absurd (pumps_taken g.P.Performance (lawful_kind g.met.P.Performance) c.in_ok-diagram.ensures.answers_right c.args.self.now two c.in_ok-diagram.diagram c.args.store.now c.in_ok-diagram.ensures.made
+    absurd (ok_not_err (sym (pumps_joined g.P.Performance (lawful_kind g.met.P.Performance) c.in_ok-diagram.ensures.answers_right c.args.self.now two c.in_ok-diagram.diagram c.args.store.now c.in_ok-diagram.ensures.made
     _ _ c.add.new.self c.add-2.new.self c.add.new.store c.add-2.new.store c.in_ok-pump_a.ensures c.in_ok-pump_b.ensures
     _ c.add-3.new.self c.add-3.new.store c.in_ok-pipe.ensures 0 1 3 2 names _ (λ e f i. e i ∷ f i ∷ [])
-    c.join.new.self _ c.in_err-pumps.ensures)
+    c.join.new.self _ c.in_err-pumps.ensures).0))
 
 pub returns-in_err-plant-clause-left : goal.returns-in_err-plant-clause-left
 returns-in_err-plant-clause-left g c =
     let two : TwoEach c.args.self.now = record { pump_a = search rules; pump_b = search rules; pipe = search rules } in
-    absurd (plant_taken g.P.Performance (lawful_kind g.met.P.Performance) c.in_ok-diagram.ensures.answers_right c.args.self.now two c.in_ok-diagram.diagram c.args.store.now c.in_ok-diagram.ensures.made
+    absurd (ok_not_err (sym (plant_joined g.P.Performance (lawful_kind g.met.P.Performance) c.in_ok-diagram.ensures.answers_right c.args.self.now two c.in_ok-diagram.diagram c.args.store.now c.in_ok-diagram.ensures.made
     _ _ c.add.new.self c.add-2.new.self c.add.new.store c.add-2.new.store c.in_ok-pump_a.ensures c.in_ok-pump_b.ensures
     _ c.add-3.new.self c.add-3.new.store c.in_ok-pipe.ensures 0 1 3 2 names _ (λ e f i. e i ∷ f i ∷ [])
-    _ c.join.new.self c.in_ok-pumps.ensures _ (λ e f i. e i ∷ f i ∷ []) c.join-2.new.self _ c.in_err-plant.ensures)
+    _ c.join.new.self c.in_ok-pumps.ensures _ (λ e f i. e i ∷ f i ∷ [])
+    c.join-2.new.self _ c.in_err-plant.ensures).0))
 
 pub returns-in_err-collect-clause-left : goal.returns-in_err-collect-clause-left
 returns-in_err-collect-clause-left g c =
     let two : TwoEach c.args.self.now = record { pump_a = search rules; pump_b = search rules; pipe = search rules } in
-    absurd (pumps_worked_out g.P.Performance (lawful_kind g.met.P.Performance) c.in_ok-diagram.ensures.answers_right c.args.self.now two c.in_ok-diagram.diagram c.args.store.now c.in_ok-diagram.ensures.made
+    absurd (ok_not_err (sym (pumps_collected g.P.Performance (lawful_kind g.met.P.Performance) c.in_ok-diagram.ensures.answers_right c.args.self.now two c.in_ok-diagram.diagram c.args.store.now c.in_ok-diagram.ensures.made
     _ _ c.add.new.self c.add-2.new.self c.add.new.store c.add-2.new.store c.in_ok-pump_a.ensures c.in_ok-pump_b.ensures
     _ c.add-3.new.self c.add-3.new.store c.in_ok-pipe.ensures 0 1 3 2 names _ (λ e f i. e i ∷ f i ∷ [])
-    _ c.join.new.self c.in_ok-pumps.ensures _ (λ e f i. e i ∷ f i ∷ []) _ c.join-2.new.self c.in_ok-plant.ensures
-    (short g.P.Performance (lawful_kind g.met.P.Performance) pumps_drawn _ refl (few g.P.Performance (lawful_kind g.met.P.Performance) pumps_drawn (λ x x' y y' z z'. omega arith) c.args.self.now two)) c.collect.new.self c.collect.new.store _ c.in_err-collect.ensures)
+    _ c.join.new.self c.in_ok-pumps.ensures _ (λ e f i. e i ∷ f i ∷ [])
+    _ c.join-2.new.self c.in_ok-plant.ensures (short g.P.Performance (lawful_kind g.met.P.Performance) pumps_drawn _ refl (few g.P.Performance (lawful_kind g.met.P.Performance) pumps_drawn (λ x x' y y' z z'. omega arith) c.args.self.now two))
+    c.collect.new.self c.collect.new.store _ c.in_err-collect.ensures).1))
 
 pub returns-in_err-collect-2-clause-left : goal.returns-in_err-collect-2-clause-left
 returns-in_err-collect-2-clause-left g c =
     let two : TwoEach c.args.self.now = record { pump_a = search rules; pump_b = search rules; pipe = search rules } in
-    absurd (plant_worked_out g.P.Performance (lawful_kind g.met.P.Performance) c.in_ok-diagram.ensures.answers_right c.args.self.now two c.in_ok-diagram.diagram c.args.store.now c.in_ok-diagram.ensures.made
+    absurd (ok_not_err (sym (plant_collected g.P.Performance (lawful_kind g.met.P.Performance) c.in_ok-diagram.ensures.answers_right c.args.self.now two c.in_ok-diagram.diagram c.args.store.now c.in_ok-diagram.ensures.made
     _ _ c.add.new.self c.add-2.new.self c.add.new.store c.add-2.new.store c.in_ok-pump_a.ensures c.in_ok-pump_b.ensures
     _ c.add-3.new.self c.add-3.new.store c.in_ok-pipe.ensures 0 1 3 2 names _ (λ e f i. e i ∷ f i ∷ [])
-    _ c.join.new.self c.in_ok-pumps.ensures _ (λ e f i. e i ∷ f i ∷ []) _ c.join-2.new.self c.in_ok-plant.ensures
-    _ c.collect.new.self c.collect.new.store c.in_ok-collect.ensures
-    (short g.P.Performance (lawful_kind g.met.P.Performance) drawn _ refl (few g.P.Performance (lawful_kind g.met.P.Performance) drawn (λ x x' y y' z z'. omega arith) c.args.self.now two)) c.collect-2.new.self c.collect-2.new.store _ c.in_err-collect-2.ensures)
+    _ c.join.new.self c.in_ok-pumps.ensures _ (λ e f i. e i ∷ f i ∷ [])
+    _ c.join-2.new.self c.in_ok-plant.ensures (short g.P.Performance (lawful_kind g.met.P.Performance) pumps_drawn _ refl (few g.P.Performance (lawful_kind g.met.P.Performance) pumps_drawn (λ x x' y y' z z'. omega arith) c.args.self.now two))
+    _ c.collect.new.self c.collect.new.store c.in_ok-collect.ensures (short g.P.Performance (lawful_kind g.met.P.Performance) drawn _ refl (few g.P.Performance (lawful_kind g.met.P.Performance) drawn (λ x x' y y' z z'. omega arith) c.args.self.now two))
+    c.collect-2.new.self c.collect-2.new.store _ c.in_err-collect-2.ensures).1))
 
 pub returns : goal.returns
 returns g c =
@@ -66,8 +70,10 @@ returns g c =
     let w = worked_out g.P.Performance (lawful_kind g.met.P.Performance) c.in_ok-diagram.ensures.answers_right c.args.self.now two c.in_ok-diagram.diagram c.args.store.now c.in_ok-diagram.ensures.made
     _ _ c.add.new.self c.add-2.new.self c.add.new.store c.add-2.new.store c.in_ok-pump_a.ensures c.in_ok-pump_b.ensures
     _ c.add-3.new.self c.add-3.new.store c.in_ok-pipe.ensures 0 1 3 2 names _ (λ e f i. e i ∷ f i ∷ [])
-    _ c.join.new.self c.in_ok-pumps.ensures _ (λ e f i. e i ∷ f i ∷ []) _ c.join-2.new.self c.in_ok-plant.ensures
-    _ c.collect.new.self c.collect.new.store c.in_ok-collect.ensures _ c.collect-2.new.self c.collect-2.new.store c.in_ok-collect-2.ensures in
+    _ c.join.new.self c.in_ok-pumps.ensures _ (λ e f i. e i ∷ f i ∷ [])
+    _ c.join-2.new.self c.in_ok-plant.ensures (short g.P.Performance (lawful_kind g.met.P.Performance) pumps_drawn _ refl (few g.P.Performance (lawful_kind g.met.P.Performance) pumps_drawn (λ x x' y y' z z'. omega arith) c.args.self.now two))
+    _ c.collect.new.self c.collect.new.store c.in_ok-collect.ensures (short g.P.Performance (lawful_kind g.met.P.Performance) drawn _ refl (few g.P.Performance (lawful_kind g.met.P.Performance) drawn (λ x x' y y' z z'. omega arith) c.args.self.now two))
+    _ c.collect-2.new.self c.collect-2.new.store c.in_ok-collect-2.ensures in
     record {
       calls = record {
         nodes = λ i. record { pump_a = w.is_a i; pump_b = w.is_b i; pipe = w.is_pipe i; pumps = w.are_pumps i; plant = w.is_plant i };

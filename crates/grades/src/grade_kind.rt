@@ -1,7 +1,9 @@
-// Grades as a kind of performance: a chain of steps is as good as its worst, and of parallel lines the better counts.
+//! Grades as a kind of performance: a chain of steps is as good as its worst, and of parallel lines
+//! the better counts.
 ghost use Rattle.std.specs.Prelude.{false};
-ghost use Rattle.grades.specs.Grades.{grade_compared, lower, higher, grade_bridge, grade_meets};
-ghost use Rattle.grades.specs.GradeLaws.{compared_same, lower_assoc, lower_comm, higher_assoc, higher_comm};
+ghost use Rattle.grades.specs.GradeKind.{grade_compared, lower, higher, grade_bridge, grade_meets};
+ghost use Rattle.grades.specs.GradeLaws.{compared_same, lower_assoc, lower_comm};
+ghost use Rattle.grades.specs.GradeLaws.{higher_assoc, higher_comm};
 ghost use Rattle.std.proofs.Common.{rules};
 
 use crate::grade::Grade;

@@ -9,9 +9,9 @@ use Rattle.diagram.specs.Refusals.{Asked}
 use Rattle.diagram.specs.Nodes.{EnoughStates}
 use Rattle.diagram.specs.Histories.{Making, added, joined_from, collecting, number, Entry, History}
 use Rattle.diagram.specs.Runs.{Run}
-use Rattle.files.specs.Drawn.{history_of}
-use Rattle.grades.specs.contracts.grading.GradePerformance.TheImpl.{ghosts as grades}
-use Rattle.grades.specs.contracts.batching.BatchesWeight.TheImpl.{ghosts as batches}
+use Rattle.diagram.specs.Makings.{history_of}
+use Rattle.grades.specs.contracts.grade_kind.GradePerformance.TheImpl.{ghosts as grade_kind}
+use Rattle.grades.specs.contracts.batches_weight.BatchesWeight.TheImpl.{ghosts as batches_weight}
 use Rattle.grades.specs.declared.batches.Batches.{Batches}
 use Rattle.grades.specs.declared.grade.Grade.{Grade}
 use Rattle.grades.specs.declared.share.Joined.{Joined}
@@ -56,12 +56,26 @@ module _ (first second finishing : List (Term Grade Batches)) where
         Asked (EnoughStates (length first)) (r ≡ Err WrongStates)
         (Asked (EnoughStates (length second)) (r ≡ Err WrongStates)
         (Asked (EnoughStates (length finishing)) (r ≡ Err WrongStates)
-        ((r ≡ Ok in_order) × Run grades batches (history_of lent parts_made) d s)))
+        ((r ≡ Ok in_order) × Run grade_kind batches_weight (history_of lent parts_made) d s)))
 
     -- the parts are joined
     abbrev pub PartsJoined : Result Joined Refusal → Type 0
-    PartsJoined r = (r ≡ Ok joined_in_order) × Run grades batches (history_of lent nodes_made) d s
+    PartsJoined r = (r ≡ Ok joined_in_order) × Run grade_kind batches_weight (history_of lent nodes_made) d s
 
     -- the parts are joined and worked out, as node 4
-    abbrev pub WorkedOut : Result ℕ Refusal → Type 0
-    WorkedOut r = (r ≡ Ok 4) × (m : ℕ) × (n : ℕ) × Run grades batches (worked_out lent m n) d s
+    abbrev pub PlantWorkedOut : Result ℕ Refusal → Type 0
+    PlantWorkedOut r = (r ≡ Ok 4) × (m : ℕ) × (n : ℕ) × Run grade_kind batches_weight (worked_out lent m n) d s
+
+-- whichever the parts' states: where nothing was called but their adding, they are joined, or worked out, and these rows stand
+module _ (d : Diagram Grade Batches) (s : List (Term Grade Batches)) (d' : Diagram Grade Batches) where
+  abbrev Where : (List (Term Grade Batches) → List (Term Grade Batches) → List (Term Grade Batches) → Type 0) → Type 0
+  Where so = (first second finishing : List (Term Grade Batches)) → Run grade_kind batches_weight (history_of (length s) (parts_made first second finishing)) d s → so first second finishing
+
+  abbrev pub JoinsParts : Result Joined Refusal → Type 0
+  JoinsParts r = Where (λ first second finishing. PartsJoined first second finishing (length s) d' s r)
+
+  abbrev pub WorksOut : List (Term Grade Batches) → Result ℕ Refusal → Type 0
+  WorksOut s' r = Where (λ first second finishing. PlantWorkedOut first second finishing (length s) d' s' r)
+
+  abbrev pub LeavesRows : List (Term Grade Batches) → Type 0
+  LeavesRows s' = Where (λ first second finishing. RowsOfShare first second finishing 5 s s')

@@ -1,6 +1,7 @@
-// Batches as a kind of weight: how many batches of a state there are in all, counted up to the top.
-ghost use Rattle.grades.specs.Batched.{no_batches, batches_sum, batches_product, are_none};
-ghost use Rattle.grades.specs.BatchesLaws.{only_none, sum_assoc, sum_none, sum_is_none, product_assoc, product_sum, product_none};
+//! Batches as a kind of weight: how many of a state there are in all, counted up to the top.
+ghost use Rattle.grades.specs.BatchesWeight.{no_batches, batches_sum, batches_product, are_none};
+ghost use Rattle.grades.specs.BatchesLaws.{only_none, sum_assoc, sum_none, sum_is_none};
+ghost use Rattle.grades.specs.BatchesLaws.{product_assoc, product_sum, product_none};
 ghost use Rattle.std.proofs.Common.{rules};
 
 use crate::batches::Batches;
