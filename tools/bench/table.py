@@ -11,17 +11,10 @@ import subprocess
 import sys
 from pathlib import Path
 
-from write import ARM_SIZES, CHAIN_SIZES, MODELS, MOST_ARM, TREE_SIZES
+sys.path.insert(0, str(Path(__file__).resolve().parents[1] / "other"))
+from kinds import DELAY_OR_OUT, FAULT_SET, FLOW, MODELS, PAIR, name_of
+from write import ARM_SIZES, CHAIN_SIZES, MOST_ARM, TREE_SIZES
 
-NAMES = {
-    1: "flow, parts",
-    2: "delay, parts",
-    3: "fault set, scenarios",
-    4: "first fault, parts",
-    5: "pair of delay and flow, effort",
-    6: "flow-or-out, parts",
-    7: "delay-or-out, parts",
-}
 C_PROGRAMS = ("engine", "plain", "same", "best", "held")
 LINKS = ("0", "16")  # how many bytes further the code lies
 SECONDS = "0.1"  # a program calls for so long at least, and three times at least
@@ -82,7 +75,7 @@ def ratios(figures, title, shape, size):
     heading(title, "kind, weight", "engine, ms", "plain C, ms", "same C, ms", "best C, ms", "held C, ms", "engine / plain", "engine / same", "engine / best", "engine / held")
     for model in MODELS:
         engine, *others = times = figures.take(f"{shape}-{model}-{size}")
-        line(NAMES[model], *map(ms, times), *(f"{engine / other:.2f}" for other in others))
+        line(name_of(model), *map(ms, times), *(f"{engine / other:.2f}" for other in others))
 
 
 def growth(figures, title, shape, sizes, count):
@@ -91,14 +84,14 @@ def growth(figures, title, shape, sizes, count):
     for model in MODELS:
         times = [figures.take(f"{shape}-{model}-{size}", ("engine",))[0] for size in sizes]
         each = [f"{times[i] / count(sizes[i]):.2f}" for i in (0, -1)]
-        line(NAMES[model], *map(ms, times), *each)
+        line(name_of(model), *map(ms, times), *each)
 
 
 def beside_python(figures):
     heading("Beside Python", "file", "engine, ms", "Python, ms", "Python / engine")
     turns, figures.turns = figures.turns, 1
     for shape, size in (("bridge", 8), ("bridge", 12), ("eight-S", 64), ("chain", 48)):
-        for model in (1, 3, 5, 7):
+        for model in (FLOW, FAULT_SET, PAIR, DELAY_OR_OUT):
             name = f"{shape}-{model}-{size}"
             engine, other = figures.take(name, ("engine", "python"))
             line(name, ms(engine), ms(other), f"{other / engine:.0f}")

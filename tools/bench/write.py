@@ -17,10 +17,8 @@ from pathlib import Path
 
 sys.path.insert(0, str(Path(__file__).resolve().parents[1] / "other"))
 from files import file_of, joined, needs, part
+from kinds import DELAY, DELAY_OR_OUT, FAULT_SET, FLOW, FLOW_OR_OUT, MODELS, PAIR, TOP32
 
-TOP = 4294967295
-FLOW, DELAY, FAULT_SET, FIRST_FAULT, PAIR, FLOW_OR_OUT, DELAY_OR_OUT = range(1, 8)
-MODELS = range(1, 8)
 MOST_ARM, MOST_TERMS = 24, 64
 ARM_SIZES = (8, 12, 16, 20, 24)
 CHAIN_SIZES = (6, 12, 24, 48)
@@ -35,7 +33,7 @@ def works(numbers):
 def arm(model, arm_number, size, may_be_out):
     """The performances of an arm: dense and ascending, and no two alike."""
     if model == PAIR:
-        return [(delay, flow) for delay in (0, TOP) for flow in range(size // 2)]
+        return [(delay, flow) for delay in (0, TOP32) for flow in range(size // 2)]
     if model == FLOW_OR_OUT or model == DELAY_OR_OUT and may_be_out and arm_number < 3:
         return [OUT] + works(range(size - 1))
     # A delay-or-out keeps its last two arms working: with them out too, a way may lead through three arms, and the row is past 64 terms.
@@ -44,12 +42,12 @@ def arm(model, arm_number, size, may_be_out):
 
 def many(model, letter):
     """64 performances that are 64 again, however many lists of them are joined."""
-    top = lambda some: list(range(TOP + 1 - some, TOP + 1))
+    top = lambda some: list(range(TOP32 + 1 - some, TOP32 + 1))
     adds = {FLOW: "L", DELAY: "S", PAIR: "SL", FLOW_OR_OUT: "L", DELAY_OR_OUT: "S"}.get(model, "")
     capped = any(way in adds for way in letter)  # where numbers are added, they stand at the top, but for one
     if model == PAIR:
         flows = [0] + top(31) if "L" in letter else range(32)
-        return [(delay, flow) for delay in (0, TOP) for flow in flows]
+        return [(delay, flow) for delay in (0, TOP32) for flow in flows]
     if model in (FLOW_OR_OUT, DELAY_OR_OUT):
         return [OUT] + works([0] + top(62) if capped else range(63))
     return works([0] + top(63) if capped else range(64))
@@ -57,7 +55,7 @@ def many(model, letter):
 
 def weight(model, part_number, i):
     if model == FAULT_SET:
-        return (TOP << i % 3 & TOP) >> part_number % 5
+        return (TOP32 << i % 3 & TOP32) >> part_number % 5
     if model == PAIR:
         return 10 + (i * 5 + part_number) % 9
     return 1 + (i * 7 + part_number) % 5

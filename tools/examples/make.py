@@ -13,15 +13,14 @@ import sys
 sys.path.insert(0, str(pathlib.Path(__file__).resolve().parent.parent / "other"))
 
 from files import answer
+from kinds import DELAY, DELAY_OR_OUT, FAULT_SET, FIRST_FAULT, FLOW, FLOW_OR_OUT, PAIR, TOP32
 from rows import Finder
 
-TOP = 4294967295
 OUT = "out"
-PAIR = 5  # the model whose performances are two numbers
 
 
 def words(model, v):
-    """The two words by which a performance is written."""
+    """The two words by which a performance is written: of a pair two numbers."""
     if v == OUT:
         return 1, 0
     return v if model == PAIR else (0, v)
@@ -66,7 +65,7 @@ def written(model, nodes, demands):
 EXAMPLES = {
     # Two pumps in parallel, then a pipe in series: flow, and so many parts of a thousand. The plant of crates/worked.
     "plant": (
-        1,
+        FLOW,
         [
             part((0, 1), (3, 9)),
             part((0, 2), (2, 8)),
@@ -78,21 +77,21 @@ EXAMPLES = {
     ),
     # A network of roads between two towns, a bridge of five: minutes, where a road that is closed is never. In ten days.
     "roads": (
-        2,
+        DELAY,
         [
             part((20, 8), (45, 2)),
-            part((25, 9), (TOP, 1)),
+            part((25, 9), (TOP32, 1)),
             part((5, 7), (15, 3)),
             part((30, 10)),
-            part((20, 6), (35, 3), (TOP, 1)),
+            part((20, 6), (35, 3), (TOP32, 1)),
             bridge(0, 1, 2, 3, 4),
         ],
-        [45, 50, 60, TOP],
+        [45, 50, 60, TOP32],
     ),
     # Two controllers of which one has to work, then a valve: which classes of fault show (bit 0 power, bit 1 signal, bit 2 stuck),
     # in which of eight scenarios.
     "controllers": (
-        3,
+        FAULT_SET,
         [
             part((0, 0b00001111), (0b001, 0b00110000), (0b011, 0b11000000)),
             part((0, 0b01010101), (0b010, 0b10101010)),
@@ -104,7 +103,7 @@ EXAMPLES = {
     ),
     # A tank and its sensors: which fault is met first, where a line is looked through from its source on.
     "first-alarm": (
-        4,
+        FIRST_FAULT,
         [
             part((0, 90), (7, 6), (2, 4)),
             part((0, 95), (5, 5)),
@@ -118,10 +117,10 @@ EXAMPLES = {
     ),
     # A job on one of two machines and then by hand: hours and pieces, at the least cost.
     "workshop": (
-        5,
+        PAIR,
         [
             part(((2, 40), 900), ((4, 40), 500), ((4, 25), 300)),
-            part(((3, 30), 450), ((6, 35), 200), ((9, 10), TOP)),
+            part(((3, 30), 450), ((6, 35), 200), ((9, 10), TOP32)),
             parallel(0, 1),
             part(((1, 60), 350), ((5, 50), 100)),
             series(2, 3),
@@ -130,7 +129,7 @@ EXAMPLES = {
     ),
     # A ring of water mains, a bridge of five: litres, where a main may be shut, which is not the same as one that runs dry.
     "water-mains": (
-        6,
+        FLOW_OR_OUT,
         [
             part((OUT, 1), (0, 1), (8, 8)),
             part((OUT, 2), (6, 8)),
@@ -143,26 +142,26 @@ EXAMPLES = {
     ),
     # Three links to a depot, a line of two and one more, where a link may be down: milliseconds, and one that never answers.
     "links": (
-        7,
+        DELAY_OR_OUT,
         [
             part((OUT, 1), (10, 9)),
             part((12, 7), (40, 3)),
             series(0, 1),
-            part((OUT, 2), (30, 7), (TOP, 1)),
+            part((OUT, 2), (30, 7), (TOP32, 1)),
             parallel(2, 3),
         ],
-        [OUT, 25, 30, TOP],
+        [OUT, 25, 30, TOP32],
     ),
     # Five valves in series, each open in 90 parts of a hundred. All open are 5904900000 of 10000000000: both are past the top, and
     # stop there; that not all are open are 4095100000, which is below.
-    "valves": (1, [part((1, 90), (0, 10))] * 5 + [series(0, 1, 2, 3, 4)], [1]),
+    "valves": (FLOW, [part((1, 90), (0, 10))] * 5 + [series(0, 1, 2, 3, 4)], [1]),
     # The same with worn valves: all open are 102400000, which is true, of a total that is past the top.
-    "worn-valves": (1, [part((1, 40), (0, 60))] * 5 + [series(0, 1, 2, 3, 4)], [1]),
+    "worn-valves": (FLOW, [part((1, 40), (0, 60))] * 5 + [series(0, 1, 2, 3, 4)], [1]),
     # The first valves in tenths: nothing is past the top.
-    "valves-in-tenths": (1, [part((1, 9), (0, 1))] * 5 + [series(0, 1, 2, 3, 4)], [1]),
+    "valves-in-tenths": (FLOW, [part((1, 9), (0, 1))] * 5 + [series(0, 1, 2, 3, 4)], [1]),
     # A pump that has power while one of two lines stands: no power (bit 0) or flooded (bit 1), in which of four storms.
     "storms": (
-        3,
+        FAULT_SET,
         [
             part((0, 0b0111), (0b01, 0b1000)),
             part((0, 0b0011), (0b01, 0b1100)),
@@ -174,7 +173,7 @@ EXAMPLES = {
     ),
     # A plant is restarted, first the boiler, then the line: hours until it runs and what it yields, at the least cost.
     "restart-costs": (
-        5,
+        PAIR,
         [
             part(((1, 60), 1150), ((2, 60), 900), ((4, 60), 400)),
             part(((1, 60), 400), ((3, 40), 200)),

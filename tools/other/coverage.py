@@ -3,6 +3,7 @@
 from collections import Counter
 
 from files import FAULTS
+from kinds import MODELS
 
 
 class Coverage:
@@ -11,7 +12,7 @@ class Coverage:
 
     def add(self, data, printed):
         """Counts a file and what is printed of it."""
-        model = data[0] if data and 1 <= data[0] <= 7 else "none"
+        model = data[0] if data and data[0] in MODELS else "none"
         what = int(printed.split()[3]) if printed.startswith(b"fault") else "report"
         self.counts[model, what] += 1
 
@@ -24,7 +25,7 @@ class Coverage:
         return "\n".join(lines)
 
     def models(self):
-        return [1, 2, 3, 4, 5, 6, 7, "none"]
+        return [*MODELS, "none"]
 
     def count(self, model, what):
         if model == "all":

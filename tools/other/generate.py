@@ -15,10 +15,8 @@ import struct
 
 from coverage import Coverage
 from files import answer, file_of, joined, needs, part
-from kinds import MODELS, TOP32
+from kinds import FAULT_SET, FIRST_FAULT, MODELS, PAIR, TOP32, WITH_OUT
 from rows import Finder, LONGEST_ARM, row_of_states, running_by_convolution
-
-PAIR, SETS, FIRST, WITH_OUT = 5, 3, 4, (6, 7)
 
 
 class Knobs:
@@ -31,7 +29,7 @@ class Knobs:
 def some_words(rng, model):
     """A function that draws one word of a performance: one file draws all of its words in one manner."""
     manner = rng.choice(["few", "few", "steps", "caps", "wide", "bits"])
-    if model == SETS and rng.random() < 0.6:
+    if model == FAULT_SET and rng.random() < 0.6:
         manner = "bits"
     most, step = rng.randint(1, 5), rng.choice([1, 2, 3, 8, 1000, 2**28, 2**31 - 1])
     if manner == "few":
@@ -59,7 +57,7 @@ def some_weight(rng, model):
     def draw():
         if rng.random() < often:
             return nothing
-        if model == SETS and manner == "few":
+        if model == FAULT_SET and manner == "few":
             return sum(bit for bit in bits if rng.random() < 0.7)
         if manner == "few":
             return rng.randint(0, 9)
@@ -168,14 +166,14 @@ def sound_plant(rng, knobs, model):
 
 def distinct_states(rng, plant, count):
     """States of so many different performances, none of nothing: a part with as many terms."""
-    found = {(0, 0): 1} if plant.model == FIRST else {}  # healthy, so that what comes after it shows
+    found = {(0, 0): 1} if plant.model == FIRST_FAULT else {}  # healthy, so that what comes after it shows
     while len(found) < count:
-        high, low = 0, rng.getrandbits(32) if plant.model == SETS else rng.randint(0, 10**9)
+        high, low = 0, rng.getrandbits(32) if plant.model == FAULT_SET else rng.randint(0, 10**9)
         if plant.model == PAIR:
             high = rng.randint(0, 10**9)
         elif plant.model in WITH_OUT and rng.random() < 0.02:
             high, low = 1, 0
-        found[high, low] = rng.choice([TOP32, 1]) if plant.model == SETS else 1
+        found[high, low] = rng.choice([TOP32, 1]) if plant.model == FAULT_SET else 1
     return [(*words, w) for words, w in found.items()]
 
 
@@ -190,11 +188,11 @@ def long_plant(rng, knobs, model):
             plant.add(distinct_states(rng, plant, size))
         plant.put(joined("B", rng.sample(range(5), 5)), {})
     elif manner == "result":
-        least = 28 if model == FIRST else 20
+        least = 28 if model == FIRST_FAULT else 20
         sizes = [rng.randint(least, 40) for _ in range(rng.randint(2, 3))]
         for size in sizes:
             plant.add(distinct_states(rng, plant, size))
-        letter = "S" if model == FIRST else rng.choice("SL")  # first faults in parallel show none but those of the first
+        letter = "S" if model == FIRST_FAULT else rng.choice("SL")  # first faults in parallel show none but those of the first
         plant.put(joined(letter, rng.sample(range(len(sizes)), len(sizes))), {})
     elif manner == "product":
         # so many and so many values far apart: as many sums as pairs of them
@@ -202,7 +200,7 @@ def long_plant(rng, knobs, model):
         z = y + rng.choice([0, 0, 0, 1])
         one = [(step, 1) for step in range(x)]
         other = [(step * x, 1) for step in range(min(z, 64))]
-        if plant.model == SETS:
+        if plant.model == FAULT_SET:
             one, other = [(1 << p, 1) for p, _ in one], [(p << 20, 1) for p, _ in other]
         for values in (one, other):
             plant.add([(rng.choice([0, 7]) if model == PAIR else 0, p, w) for p, w in values])
@@ -212,7 +210,7 @@ def long_plant(rng, knobs, model):
         sizes = rng.choice([(40, 40), (8, 8), (8, 9), (30, 34), (30, 36)])
         for size in sizes:
             plant.add(distinct_states(rng, plant, size))
-        last = {1: TOP32, 2: TOP32, 3: TOP32, 4: 5, 5: TOP32, 6: TOP32, 7: TOP32}[model]
+        last = 5 if model == FIRST_FAULT else TOP32
         plant.add([(rng.choice([0, TOP32]) if model == PAIR else 0, rng.choice([0, last]), 1)])
         order = [0, 1, 2] if rng.random() < 0.6 else rng.sample(range(3), 3)
         plant.put(joined(rng.choice("SL"), order), {})
@@ -231,7 +229,7 @@ def broken(rng, plant, file):
         " later used used used twice twice mixed mixed demands cut cut more more flip flip none_left".split()
     )
     if damage == "model":
-        file[0] = rng.choice([0, 8, 9, 255, rng.randrange(256), rng.randint(1, 7)])
+        file[0] = rng.choice([0, max(MODELS) + 1, max(MODELS) + 2, 255, rng.randrange(256), rng.choice(list(MODELS))])
     elif damage == "count":
         file[1] = rng.choice([0, 1, 50, 255, file[1] - 1, (file[1] + 1) % 256, rng.randrange(256)])
     elif damage == "cut":
@@ -304,7 +302,7 @@ def generated(seed, number, knobs=Knobs()):
     rng = random.Random(f"{seed}/{number}")
     if rng.random() < 0.005:
         return rng.randbytes(rng.randint(0, 60))
-    model = rng.randint(1, 7)
+    model = rng.choice(list(MODELS))
     if rng.random() < 0.001:
         # The program hands over 50,001 bytes, and within them the body of the last part is not all there.
         return file_of(model, [part([(0, 0, 1)] * 64)] * 47 + [part([(0, 0, 1)] * 255), needs([(0, 0)])])

@@ -11,6 +11,8 @@ def capped(number):
 
 
 class Flow:
+    name = "flow"
+
     def series(self, v, w):
         return min(v, w)
 
@@ -33,6 +35,8 @@ class Flow:
 class Delay(Flow):
     """Its two words are a flow's; never is TOP32."""
 
+    name = "delay"
+
     def series(self, v, w):
         return capped(v + w)
 
@@ -48,6 +52,8 @@ class Delay(Flow):
 
 class FaultSet(Flow):
     """Its two words are a flow's; bit i is class i."""
+
+    name = "fault set"
 
     def series(self, v, w):
         return v | w
@@ -65,6 +71,8 @@ class FaultSet(Flow):
 class FirstFault(Flow):
     """Its two words are a flow's; 0 is healthy."""
 
+    name = "first fault"
+
     def series(self, v, w):
         return w if v == 0 else v
 
@@ -80,6 +88,8 @@ class FirstFault(Flow):
 
 class Grade(Flow):
     """A kind that no file has and only sequences of calls use: grades 0 to 9, a bridge by its paths."""
+
+    name = "grade"
 
     def series(self, v, w):
         return min(v, w)
@@ -105,6 +115,7 @@ class Pair:
 
     def __init__(self, first, second):
         self.first, self.second = first, second
+        self.name = f"pair of {first.name} and {second.name}"
 
     def series(self, v, w):
         return (self.first.series(v[0], w[0]), self.second.series(v[1], w[1]))
@@ -136,6 +147,7 @@ class OrOut:
 
     def __init__(self, kind):
         self.kind = kind
+        self.name = f"{kind.name}-or-out"
 
     def series(self, v, w):
         if v == OUT or w == OUT:
@@ -178,6 +190,7 @@ class OrOut:
 
 
 class Parts:
+    name = "parts"
     nothing = 0
 
     def sum(self, v, w):
@@ -190,6 +203,7 @@ class Parts:
 class WholeNumbers:
     """Parts without a cap; no file has them."""
 
+    name = "whole numbers"
     nothing = 0
 
     def sum(self, v, w):
@@ -200,6 +214,7 @@ class WholeNumbers:
 
 
 class Scenarios:
+    name = "scenarios"
     nothing = 0
 
     def sum(self, v, w):
@@ -210,6 +225,7 @@ class Scenarios:
 
 
 class Effort:
+    name = "effort"
     nothing = TOP32
 
     def sum(self, v, w):
@@ -219,14 +235,23 @@ class Effort:
         return capped(v + w)
 
 
+# The models: the number that a file begins with, what its performances are, and what its weights are. All else of tools/ goes by this table.
+FLOW, DELAY, FAULT_SET, FIRST_FAULT, PAIR, FLOW_OR_OUT, DELAY_OR_OUT = range(1, 8)
 MODELS = {
-    1: (Flow(), Parts()),
-    2: (Delay(), Parts()),
-    3: (FaultSet(), Scenarios()),
-    4: (FirstFault(), Parts()),
-    5: (Pair(Delay(), Flow()), Effort()),
-    6: (OrOut(Flow()), Parts()),
-    7: (OrOut(Delay()), Parts()),
+    FLOW: (Flow(), Parts()),
+    DELAY: (Delay(), Parts()),
+    FAULT_SET: (FaultSet(), Scenarios()),
+    FIRST_FAULT: (FirstFault(), Parts()),
+    PAIR: (Pair(Delay(), Flow()), Effort()),
+    FLOW_OR_OUT: (OrOut(Flow()), Parts()),
+    DELAY_OR_OUT: (OrOut(Delay()), Parts()),
 }
+WITH_OUT = [model for model, (kind, _) in MODELS.items() if isinstance(kind, OrOut)]
 WITH_PARTS = [model for model, (_, weight) in MODELS.items() if isinstance(weight, Parts)]
 UNCAPPED = {**MODELS, **{model: (MODELS[model][0], WholeNumbers()) for model in WITH_PARTS}}
+
+
+def name_of(model):
+    """As tables call it."""
+    kind, weight = MODELS[model]
+    return f"{kind.name}, {weight.name}"

@@ -14,7 +14,7 @@ import random
 from coverage import Coverage
 from files import MOST_BYTES, answer, entry, file_of, joined, needs, part
 from generate import Knobs, generated
-from kinds import MODELS, TOP32
+from kinds import DELAY, DELAY_OR_OUT, FAULT_SET, FIRST_FAULT, FLOW, FLOW_OR_OUT, MODELS, PAIR, TOP32, WITH_OUT
 from rows import Finder
 
 NEVER = TOP32
@@ -35,7 +35,7 @@ NEED = needs([(0, 3)])
 
 def the_plant():
     yield file_of(
-        1,
+        FLOW,
         [
             flows((0, 1), (3, 9)),
             flows((0, 2), (2, 8)),
@@ -52,46 +52,46 @@ def near_64_terms():
     low, high = alike(range(8)), alike(range(0, 57, 8))
     higher = alike([*range(0, 57, 8), 64])
     sure = alike([TOP32])
-    yield file_of(1, [low, high, joined("L", [0, 1]), NEED])
-    yield file_of(1, [low, higher, joined("L", [0, 1]), NEED])
-    yield file_of(1, [low, higher, sure, joined("L", [0, 1, 2]), NEED])
-    yield file_of(1, [low, higher, sure, joined("L", [2, 0, 1]), NEED])
-    yield file_of(1, [low, higher, sure, joined("L", [0, 2, 1]), NEED])
-    yield file_of(2, [low, high, joined("S", [1, 0]), NEED])
-    yield file_of(2, [low, higher, joined("S", [1, 0]), NEED])
-    yield file_of(6, [low, high, joined("L", [0, 1]), NEED])
-    yield file_of(6, [low, part([(0, 8 * i, 1) for i in range(8)] + [(1, 0, 1)]), joined("L", [0, 1]), NEED])
-    yield file_of(6, [part([(0, i, 1) for i in range(8)] + [(1, 0, 1)]), alike(range(1, 64, 9)), joined("L", [0, 1]), NEED])
-    yield file_of(3, [alike([1 << i for i in range(8)]), alike([1 << i for i in range(8, 16)]), joined("S", [0, 1]), NEED])
-    yield file_of(3, [alike([1 << i for i in range(8)]), alike([1 << i for i in range(8, 17)]), joined("S", [0, 1]), NEED])
-    yield file_of(4, [alike(range(32)), alike([0, *range(100, 132)]), joined("S", [0, 1]), NEED])
-    yield file_of(4, [alike(range(32)), alike([0, *range(100, 133)]), joined("S", [0, 1]), NEED])
-    yield file_of(5, [alike(range(8)), alike(range(0, 57, 8)), joined("L", [0, 1]), NEED])
-    yield file_of(5, [alike(range(8)), alike(range(0, 65, 8)), joined("L", [0, 1]), NEED])
+    yield file_of(FLOW, [low, high, joined("L", [0, 1]), NEED])
+    yield file_of(FLOW, [low, higher, joined("L", [0, 1]), NEED])
+    yield file_of(FLOW, [low, higher, sure, joined("L", [0, 1, 2]), NEED])
+    yield file_of(FLOW, [low, higher, sure, joined("L", [2, 0, 1]), NEED])
+    yield file_of(FLOW, [low, higher, sure, joined("L", [0, 2, 1]), NEED])
+    yield file_of(DELAY, [low, high, joined("S", [1, 0]), NEED])
+    yield file_of(DELAY, [low, higher, joined("S", [1, 0]), NEED])
+    yield file_of(FLOW_OR_OUT, [low, high, joined("L", [0, 1]), NEED])
+    yield file_of(FLOW_OR_OUT, [low, part([(0, 8 * i, 1) for i in range(8)] + [(1, 0, 1)]), joined("L", [0, 1]), NEED])
+    yield file_of(FLOW_OR_OUT, [part([(0, i, 1) for i in range(8)] + [(1, 0, 1)]), alike(range(1, 64, 9)), joined("L", [0, 1]), NEED])
+    yield file_of(FAULT_SET, [alike([1 << i for i in range(8)]), alike([1 << i for i in range(8, 16)]), joined("S", [0, 1]), NEED])
+    yield file_of(FAULT_SET, [alike([1 << i for i in range(8)]), alike([1 << i for i in range(8, 17)]), joined("S", [0, 1]), NEED])
+    yield file_of(FIRST_FAULT, [alike(range(32)), alike([0, *range(100, 132)]), joined("S", [0, 1]), NEED])
+    yield file_of(FIRST_FAULT, [alike(range(32)), alike([0, *range(100, 133)]), joined("S", [0, 1]), NEED])
+    yield file_of(PAIR, [alike(range(8)), alike(range(0, 57, 8)), joined("L", [0, 1]), NEED])
+    yield file_of(PAIR, [alike(range(8)), alike(range(0, 65, 8)), joined("L", [0, 1]), NEED])
     # Terms whose weights come to nothing are none: 72 performances, of which 64 weigh something.
-    yield file_of(1, [low, flows(*((8 * i, 0 if i == 4 else 1) for i in range(9))), joined("L", [0, 1]), NEED])
+    yield file_of(FLOW, [low, flows(*((8 * i, 0 if i == 4 else 1) for i in range(9))), joined("L", [0, 1]), NEED])
 
 
 def bridges():
     """Arms with as many terms as may be, and with one more."""
     arms = [alike(range(24))] * 5
     bridge = joined("B", [0, 1, 2, 3, 4])
-    yield file_of(1, arms + [bridge, needs([(0, 20), (0, 46), (0, 47)])])
-    yield file_of(2, arms[:4] + [flows(*((i if i else NEVER, 1) for i in range(24))), bridge, NEED])
-    yield file_of(6, arms[:4] + [part([(0, i, 1) for i in range(1, 24)] + [(1, 0, 5)]), bridge, NEED])
+    yield file_of(FLOW, arms + [bridge, needs([(0, 20), (0, 46), (0, 47)])])
+    yield file_of(DELAY, arms[:4] + [flows(*((i if i else NEVER, 1) for i in range(24))), bridge, NEED])
+    yield file_of(FLOW_OR_OUT, arms[:4] + [part([(0, i, 1) for i in range(1, 24)] + [(1, 0, 5)]), bridge, NEED])
     for arm in range(5):
         longer = [alike([1])] * 5
         longer[arm] = alike(range(25))
-        yield file_of(1, longer + [bridge, NEED])
+        yield file_of(FLOW, longer + [bridge, NEED])
         longer[arm] = alike(range(24))
-        yield file_of(1, longer + [bridge, NEED])
+        yield file_of(FLOW, longer + [bridge, NEED])
     # 25 states of which one weighs nothing are 24 terms
-    yield file_of(1, [flows(*((i, i) for i in range(25)))] + [alike([1])] * 4 + [bridge, NEED])
+    yield file_of(FLOW, [flows(*((i, i) for i in range(25)))] + [alike([1])] * 4 + [bridge, NEED])
     # five arms of 13 terms far apart: more than 64 results
-    yield file_of(2, [alike(13**i * j for j in range(3)) for i in range(5)] + [bridge, NEED])
-    yield file_of(2, [alike([13**i * j for j in range(13)]) for i in range(5)] + [bridge, NEED])
-    yield file_of(2, [alike([t]) for t in (1, 4, 10, 2, 9)] + [bridge, NEED])
-    yield file_of(4, [alike([f]) for f in (0, 4, 0, 7, 0)] + [bridge, NEED])
+    yield file_of(DELAY, [alike(13**i * j for j in range(3)) for i in range(5)] + [bridge, NEED])
+    yield file_of(DELAY, [alike([13**i * j for j in range(13)]) for i in range(5)] + [bridge, NEED])
+    yield file_of(DELAY, [alike([t]) for t in (1, 4, 10, 2, 9)] + [bridge, NEED])
+    yield file_of(FIRST_FAULT, [alike([f]) for f in (0, 4, 0, 7, 0)] + [bridge, NEED])
     for model in MODELS:
         for order in ([0, 1, 2, 3, 4], [3, 1, 4, 0, 2]):
             sides = [[(0, 0, 3), (0, 1 << arm, 5)] for arm in range(5)]
@@ -100,25 +100,25 @@ def bridges():
     for model in MODELS:
         for _ in range(4):
             # of 32 classes each shows at arms of its own, and the other kinds take small numbers
-            words = [rng.getrandbits(32) if model == 3 else rng.randint(0, 9) for _ in range(10)]
-            sides = [[(rng.randint(0, 9) if model == 5 else 0, word, w) for word, w in zip(words[arm::5], (3, 7))] for arm in range(5)]
+            words = [rng.getrandbits(32) if model == FAULT_SET else rng.randint(0, 9) for _ in range(10)]
+            sides = [[(rng.randint(0, 9) if model == PAIR else 0, word, w) for word, w in zip(words[arm::5], (3, 7))] for arm in range(5)]
             yield file_of(model, [part(side) for side in sides] + [bridge, needs([(0, words[0]), (0, 6)])])
-    for model in (6, 7):
+    for model in WITH_OUT:
         # each set of arms may be out
         sides = [part([(1, 0, 1), (0, 3**arm, 10)]) for arm in range(5)]
         yield file_of(model, sides + [bridge, needs([(1, 0), (0, 0), (0, 4), (0, 200)])])
     never = [part([(1, 0, 1), (0, NEVER, 10), (0, arm, 7)]) for arm in range(5)]
-    yield file_of(7, never + [bridge, needs([(1, 0), (0, NEVER)])])
+    yield file_of(DELAY_OR_OUT, never + [bridge, needs([(1, 0), (0, NEVER)])])
 
 
 def largest():
     states = [(0, 67 * i % 64, i * i + 1) for i in range(64)]
-    yield file_of(1, [part(states)] * 48 + [needs([(0, i * 4) for i in range(16)])])
+    yield file_of(FLOW, [part(states)] * 48 + [needs([(0, i * 4) for i in range(16)])])
     # every number of its report has ten digits: 3,328 bytes
     states = [(TOP32 - 64 + i, TOP32 - 3 * i, TOP32 - 64 + i) for i in range(64)]
-    yield file_of(5, [part(states), needs([(TOP32 - 1, TOP32 - 300)] * 16)])
+    yield file_of(PAIR, [part(states), needs([(TOP32 - 1, TOP32 - 300)] * 16)])
     states = [(0, i, TOP32) for i in range(64)]
-    yield file_of(2, [part(states), needs([(0, i) for i in range(16)])])
+    yield file_of(DELAY, [part(states), needs([(0, i) for i in range(16)])])
 
 
 def caps():
@@ -134,9 +134,9 @@ def caps():
         yield file_of(model, [flows((0, nothing)), flows((3, 1)), joined("S", [0, 1]), needs([(0, 0)])])
         yield file_of(model, [flows((0, 1), (3, 2)), flows((3, 4)), joined("S", [0, 1]), needs([(0, 0)])])
         yield file_of(model, [flows((0, TOP32 - 1), (0, 1), (0, 1), (2, nothing), (2, 5)), needs([(0, 0)])])
-    yield file_of(5, [part([(0, 0, 2**31)]), part([(0, 0, 2**31 - 1)]), joined("S", [0, 1]), NEED])
-    yield file_of(7, [part([(1, 0, 1), (0, NEVER, 2), (0, 3, 4)]), needs([(1, 0), (0, NEVER), (0, 3), (0, 2)])])
-    yield file_of(6, [part([(1, 0, 1), (0, 0, 2)]), needs([(1, 0), (0, 0)])])
+    yield file_of(PAIR, [part([(0, 0, 2**31)]), part([(0, 0, 2**31 - 1)]), joined("S", [0, 1]), NEED])
+    yield file_of(DELAY_OR_OUT, [part([(1, 0, 1), (0, NEVER, 2), (0, 3, 4)]), needs([(1, 0), (0, NEVER), (0, 3), (0, 2)])])
+    yield file_of(FLOW_OR_OUT, [part([(1, 0, 1), (0, 0, 2)]), needs([(1, 0), (0, 0)])])
 
 
 def faults():
@@ -149,23 +149,23 @@ def faults():
     yield b"\xff" * 40
     yield b"\x01"
     for count in (0, 1, 50, 255):
-        yield bytes([1, count]) + sure + NEED
-    yield file_of(1, [sure])
+        yield bytes([FLOW, count]) + sure + NEED
+    yield file_of(FLOW, [sure])
     for records in (2, 49):
-        yield bytes([7, records])
-        yield bytes([1, records]) + b"P"
+        yield bytes([DELAY_OR_OUT, records])
+        yield bytes([FLOW, records]) + b"P"
     for letter in b"Qpslb\x00\xff":
-        yield file_of(1, [bytes([letter]) + sure[1:], sure, NEED])
+        yield file_of(FLOW, [bytes([letter]) + sure[1:], sure, NEED])
     for letter in b"PSLBq":
-        yield file_of(1, [sure, bytes([letter]) + NEED[1:]])
+        yield file_of(FLOW, [sure, bytes([letter]) + NEED[1:]])
     for count in (0, 17, 255):
-        yield file_of(1, [sure, bytes([81, count]) + bytes(8 * count)])
-    yield file_of(1, [sure, bytes([81, 16]) + bytes(8 * 16)])
+        yield file_of(FLOW, [sure, bytes([81, count]) + bytes(8 * count)])
+    yield file_of(FLOW, [sure, bytes([81, 16]) + bytes(8 * 16)])
     for count in (0, 1, 4, 6, 8):
-        yield file_of(1, [sure] * 6 + [joined("B", range(count)), NEED])
+        yield file_of(FLOW, [sure] * 6 + [joined("B", range(count)), NEED])
     for count in (0, 1, 2, 8, 9, 12):
         for letter in "SL":
-            yield file_of(1, [sure] * 12 + [joined(letter, range(count)), NEED])
+            yield file_of(FLOW, [sure] * 12 + [joined(letter, range(count)), NEED])
     for model in MODELS:
         for record in (1, 2):
             short = [alike([1] * 64)] * 2
@@ -178,7 +178,7 @@ def faults():
             yield file_of(model, [part([(0, 0, w)]), NEED])
         yield file_of(model, [sure, NEED]) + b"\x00"
         yield file_of(model, [sure, sure, NEED]) + b"Q"
-    for model in (1, 5, 6):
+    for model in (FLOW, PAIR, FLOW_OR_OUT):
         # the value before the number of states, in a state past the 64th too
         yield file_of(model, [sure, part([(0, 0, 1)] * 254 + [(0, 0, TOP32 + 1)]), NEED])
         yield file_of(model, [sure, part([(0, 0, 1)] * 255), NEED])
@@ -188,21 +188,21 @@ def faults():
             six = [sure] * 7 + [joined("S", [0, 1])]
             for children in ([2, 8], [9, 2], [255, 2], [2, 2], [2, 0], [0, 0], [0, 8], [2, 7], [8, 8], [7, 7]):
                 yield file_of(model, six + [joined(letter, children + [3, 4, 5][:more]), NEED])
-    yield file_of(1, [joined("S", [0, 1]), sure, sure, NEED])
-    yield file_of(1, [joined("S", [1, 2]), sure, sure, NEED])
+    yield file_of(FLOW, [joined("S", [0, 1]), sure, sure, NEED])
+    yield file_of(FLOW, [joined("S", [1, 2]), sure, sure, NEED])
     # what is left over is told before what cannot be collected; and a node that nobody uses is collected too
     wide = [alike(range(9)), alike(range(0, 64, 8)), alike([10 * i for i in range(9)])]
-    yield file_of(1, wide + [joined("L", [0, 2]), NEED]) + b"\x00"
-    yield file_of(1, wide + [joined("L", [0, 2]), sure, NEED])
-    yield file_of(1, wide + [sure, joined("S", [0, 1]), joined("L", [2, 3]), NEED])
-    yield file_of(1, [sure, sure, joined("S", [1, 0]), sure, NEED])
-    yield file_of(1, [sure, sure, joined("S", [1, 0]), sure, alike([1, 1, 0]), NEED])
-    yield file_of(1, [*the_chain()])
+    yield file_of(FLOW, wide + [joined("L", [0, 2]), NEED]) + b"\x00"
+    yield file_of(FLOW, wide + [joined("L", [0, 2]), sure, NEED])
+    yield file_of(FLOW, wide + [sure, joined("S", [0, 1]), joined("L", [2, 3]), NEED])
+    yield file_of(FLOW, [sure, sure, joined("S", [1, 0]), sure, NEED])
+    yield file_of(FLOW, [sure, sure, joined("S", [1, 0]), sure, alike([1, 1, 0]), NEED])
+    yield file_of(FLOW, [*the_chain()])
     # each place where a file may be cut
     plant = next(the_plant())
     for length in range(len(plant)):
         yield plant[:length]
-    bridge = file_of(6, [sure] * 5 + [joined("B", range(5)), NEED])
+    bridge = file_of(FLOW_OR_OUT, [sure] * 5 + [joined("B", range(5)), NEED])
     for length in range(90, len(bridge)):
         yield bridge[:length]
 
