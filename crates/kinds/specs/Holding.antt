@@ -1,5 +1,5 @@
 -- Which numbers the values of a kind hold.
-use Rattle.std.specs.Prelude.{◌≡◌, ℕ, ◌^◌, ◌<◌}
+use Rattle.std.specs.Prelude.{◌≡◌, ℕ, ◌^◌, ◌<◌, ◌≤◌}
 
 -- v is the value of the number n: it shows n, and no other value does
 pub record Holds {V : Type 0} (shown : V → ℕ) (n : ℕ) (v : V) : Type 0 where
@@ -10,3 +10,8 @@ pub record Holds {V : Type 0} (shown : V → ℕ) (n : ℕ) (v : V) : Type 0 whe
 pub record Numbers32 {V : Type 0} (shown : V → ℕ) : Type 0 where
   pub every : (n : ℕ) → n < 2 ^ 32 → (v : V) × Holds shown n v
   pub none_else : (v : V) → shown v < 2 ^ 32
+
+-- the values are the numbers up to the top: each number has one, and there is no other
+pub record NumbersTo (top : ℕ) {V : Type 0} (shown : V → ℕ) : Type 0 where
+  pub every : (n : ℕ) → n ≤ top → (v : V) × Holds shown n v
+  pub none_else : (v : V) → shown v ≤ top

@@ -1,5 +1,6 @@
 pub mod Capped
 pub mod Fits
+pub mod Bounded
 pub mod CapLaws
 pub mod Counting
 pub mod Holding

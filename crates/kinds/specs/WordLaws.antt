@@ -1,28 +1,22 @@
 -- Words are equal where their numbers are, and so the laws of numbers hold of words.
-use Rattle.std.specs.Prelude.{◌≡◌, ℕ, suc, ◌^◌, ◌<◌, min, true, refl}
+use Rattle.std.specs.Prelude.{◌≡◌, ℕ, suc, ◌^◌, min, max, true, refl}
 use Rattle.std.specs.declared.cmp.Ordering.TheVariants.{Less, Equal}
 use Rattle.std.specs.Ordering.{nat_cmp, ordering_reverse}
 use Rattle.std.specs.Int.Bits.{or_zero_l, and_zero_l}
-use Rattle.std.proofs.Math.Path.{PathP}
-use Rattle.std.proofs.Math.Bridge.{le_prop}
 use Rattle.std.proofs.Math.Nat.{min_comm}
 use Rattle.std.proofs.Common.{ap, sym, ◌∙◌, arith}
 use Rattle.std.proofs.lemmas.Bool.{eqb-true}
 use Rattle.std.proofs.lemmas.Bool.Decides.{nat_tests}
 use Rattle.std.proofs.lemmas.Cmp.{nat_cmp_total, tied_itself}
 use Rattle.std.proofs.lemmas.Nat.{or_comm, and_comm, and_assoc}
-use mathlib.Core.HLevel.{is_prop→PathP}
 use Rattle.kinds.specs.BitLaws as bits
+use Rattle.kinds.specs.Bounded.{bound_path}
 use Rattle.kinds.specs.Capped.{top32}
 use Rattle.kinds.specs.Caps as caps
 use Rattle.kinds.specs.Fits.{fits_below}
 use Rattle.kinds.specs.Holding.{Holds, Numbers32}
 use Rattle.kinds.specs.Words.{number, word, zero_word, top_word, holds_number, word_compared, smaller, word_sum, word_product, union, intersection}
 use Rattle.kinds.specs.declared.word.Word.{Word}
-
--- two proofs of one bound, along an equation
-bound_path : {m n : ℕ} (p : m ≡ n) (top : ℕ) (h : m < top) (k : n < top) → PathP (λ i. p i < top) h k
-bound_path p top h k = is_prop→PathP (λ i. p i < top) (λ i. le_prop {n = suc (p i)} {m = top}) h k
 
 -- a value holds its number, if the number tells the value
 pub holds : {V : Type 0} (shown : V → ℕ) → ((v w : V) → shown v ≡ shown w → v ≡ w) → (n : ℕ) (v : V) → shown v ≡ n → Holds shown n v
@@ -34,9 +28,12 @@ nat_equal m n h = grind (arith, nat_tests)
 pub min_assoc : (a b c : ℕ) → min (min a b) c ≡ min a (min b c)
 min_assoc a b c = omega arith
 
+pub max_assoc : (a b c : ℕ) → max (max a b) c ≡ max a (max b c)
+max_assoc a b c = omega arith
+
 module _ {Of : Type 0} where
   pub word_same : (a b : Word Of) → a.bits ≡ b.bits → a ≡ b
-  word_same a b p = λ i. record { bits = p i; of = record {}; fits = bound_path p (2 ^ 32) a.fits b.fits i }
+  word_same a b p = λ i. record { bits = p i; of = record {}; fits = bound_path (ap suc p) (2 ^ 32) a.fits b.fits i }
 
   pub word_holds : (n : ℕ) (v : Word Of) → number v ≡ n → Holds number n v
   word_holds n v e = holds number word_same n v e

@@ -22,7 +22,7 @@ pub fn named_kinds_declare()
 
 /// What pairs and kinds with out declare: that order counts where it does for a kind within.
 ///
-/// In `pair_any` and `or_out_any` whatever impls of the bounds the `Dict`s stand for.
+/// Clauses `pair_any` and `or_out_any` say it of whatever impls the `Dict`s stand for.
 pub fn composed_kinds_declare<A: Performance, B: Performance>()
     ensures pair { DeclaresEither ⟦<Pair<A, B> as Performance>⟧ A.Performance B.Performance }
     ensures pair_any { (d e d' e' : Dict) → DeclaresEither

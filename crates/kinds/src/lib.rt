@@ -17,8 +17,6 @@ pub mod pair;
 pub mod parts;
 pub mod performance;
 pub mod scenarios;
-#[cfg(test)]
-mod tests;
 pub mod theorems;
 pub mod values;
 pub mod weight;

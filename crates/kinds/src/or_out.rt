@@ -2,7 +2,7 @@
 ghost use Rattle.std.specs.Prelude.{◌≡◌, IfSome};
 ghost use Rattle.kinds.specs.OuterArms.{outer_arms};
 ghost use Rattle.kinds.specs.Outs.{out_compared, out_series, out_parallel, out_bridge, out_meets};
-ghost use Rattle.kinds.specs.Outs.{working_arms, OutAround, OutAbsent};
+ghost use Rattle.kinds.specs.Outs.{OneIsOut, working_arms, OutAround, OutAbsent};
 ghost use Rattle.kinds.specs.OutLaws.{series_assoc, parallel_assoc, series_comm, parallel_comm};
 ghost use Rattle.std.proofs.Common.{rules};
 
@@ -121,8 +121,8 @@ impl<K: Performance> Performance for OrOut<K> {
     }
 }
 
-// The table of docs/KINDS.md, line by line. Apart from `in_bridge`, and cold: it is rare, and its
-// code within the loop over arm c would make every bridge slower.
+// The table of docs/KINDS.md, line by line, where an outer arm is out. Apart from `in_bridge`, and
+// cold: it is rare, and its code within the loop over arm c would make every bridge slower.
 #[cold]
 #[inline(never)]
 fn bridge_with_out<K: Performance>(
@@ -132,21 +132,16 @@ fn bridge_with_out<K: Performance>(
     d: OrOut<K>,
     e: OrOut<K>,
 ) -> OrOut<K>
+    requires { OneIsOut a b d e }
     ensures { result ≡ out_bridge K.series K.parallel K.bridge a b c d e }
 {
-    match (a, b, c, d, e) {
-        (a, b, OrOut::Out, d, e) => a.in_series(d).in_parallel(b.in_series(e)),
-        (OrOut::Out, b, c, d, e) => b.in_series(e.in_parallel(c.in_series(d))),
-        (a, OrOut::Out, c, d, e) => a.in_series(d.in_parallel(c.in_series(e))),
-        (a, b, c, OrOut::Out, e) => a.in_series(c).in_parallel(b).in_series(e),
-        (a, b, c, d, OrOut::Out) => a.in_parallel(b.in_series(c)).in_series(d),
-        (
-            OrOut::Working(a),
-            OrOut::Working(b),
-            OrOut::Working(c),
-            OrOut::Working(d),
-            OrOut::Working(e),
-        ) => OrOut::Working(K::in_bridge(a, b, c, d, e)),
+    match (a, b, c, d) {
+        (a, b, OrOut::Out, d) => a.in_series(d).in_parallel(b.in_series(e)),
+        (OrOut::Out, b, c, d) => b.in_series(e.in_parallel(c.in_series(d))),
+        (a, OrOut::Out, c, d) => a.in_series(d.in_parallel(c.in_series(e))),
+        (a, b, c, OrOut::Out) => a.in_series(c).in_parallel(b).in_series(e),
+        // Arm e is out.
+        (a, b, c, d) => a.in_parallel(b.in_series(c)).in_series(d),
     }
 }
 

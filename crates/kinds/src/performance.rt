@@ -13,9 +13,13 @@ use std::cmp::Ordering;
 /// Arms a and b leave the source, d and e reach the sink, and c joins the middles.
 #[derive(Clone, Copy)]
 pub struct OuterArms<P> {
+    /// From the source to the first middle.
     pub a: P,
+    /// From the source to the second middle.
     pub b: P,
+    /// From the first middle to the sink.
     pub d: P,
+    /// From the second middle to the sink.
     pub e: P,
 }
 

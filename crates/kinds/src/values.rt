@@ -46,7 +46,9 @@ pub enum Cost {}
 /// Two performances side by side.
 #[derive(Clone, Copy, PartialEq, Eq, Debug)]
 pub struct Pair<A, B> {
+    /// The performance of the first kind.
     pub first: A,
+    /// The performance of the second kind.
     pub second: B,
 }
 
