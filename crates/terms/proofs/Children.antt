@@ -5,7 +5,7 @@ use Rattle.kinds.specs.declared.performance.Performance
 use Rattle.kinds.specs.declared.weight.Weight
 use Rattle.terms.specs.declared.term.Way.{Way}
 use Rattle.terms.specs.Combinations.{joins, combinations, bridges}
-use Rattle.terms.specs.Drawings.{Drawing, part, joined, bridge, Children, one, more, places, places_of, NoneTwice, NoPartTwice}
+use Rattle.terms.specs.Drawings.{Drawing, part, joined, bridge, Children, one, more, all_parts, all_parts_of, NoneTwice, NoPartTwice}
 use Rattle.terms.specs.Stepwise.{first_ones, running_drawings}
 use Rattle.terms.specs.EnumerationLaws.{OfPart, OfOne, OfMore, OfBridge, StepsFindTheRow, StepsFindRunningResults}
 use Rattle.kinds.proofs.Lawful.{Kind, Weighing}
@@ -21,13 +21,13 @@ module _ {P W : Type 0} (kind : Performance.Ghosts P) (weights : Weight.Ghosts W
 
   pub of_more : OfMore kind weights
   of_more states way ds d h =
-      let s = apart_followed (places_of ds) (places d) h in
+      let s = apart_followed (all_parts_of ds) (all_parts d) h in
       step_by_step kind weights states w (joined way (more ds d)) h
       ∙ sym (λ i. combinations weights (joins kind way) (step_by_step kind weights states w (joined way ds) s.0 i) (step_by_step kind weights states w d s.1 i))
 
   pub of_bridge : OfBridge kind weights
   of_bridge states a b c d e h =
-      let o = five_once kind weights states w (places a) (places b) (places c) (places d) (places e) h in
+      let o = five_once kind weights states w (all_parts a) (all_parts b) (all_parts c) (all_parts d) (all_parts e) h in
       step_by_step kind weights states w (bridge a b c d e) h
       ∙ sym (λ i. bridges kind weights (step_by_step kind weights states w a o.once_a i) (step_by_step kind weights states w b o.once_b i) (step_by_step kind weights states w c o.once_c i) (step_by_step kind weights states w d o.once_d i) (step_by_step kind weights states w e o.once_e i))
 
@@ -37,9 +37,9 @@ module _ {P W : Type 0} (kind : Performance.Ghosts P) (weights : Weight.Ghosts W
 
     -- no part stands twice in any of the first ones
 
-    first_ones_once : (way : Way) (ds : Children) → NoneTwice (places_of ds) → All NoPartTwice (first_ones way ds)
+    first_ones_once : (way : Way) (ds : Children) → NoneTwice (all_parts_of ds) → All NoPartTwice (first_ones way ds)
     first_ones_once way (one d) h = All-nil NoPartTwice
-    first_ones_once way (more ds d) h = All-push NoPartTwice (first_ones way ds) (joined way (more ds d)) (first_ones_once way ds (apart_followed (places_of ds) (places d) h).0) h
+    first_ones_once way (more ds d) h = All-push NoPartTwice (first_ones way ds) (joined way (more ds d)) (first_ones_once way ds (apart_followed (all_parts_of ds) (all_parts d) h).0) h
 
     running_once : (d : Drawing) → NoPartTwice d → All NoPartTwice (running_drawings d)
     running_once (part n) h = All-nil NoPartTwice

@@ -7,7 +7,7 @@ use Rattle.kinds.specs.declared.performance.Performance
 use Rattle.kinds.specs.declared.weight.Weight
 use Rattle.terms.specs.declared.term.Term.{Term}
 use Rattle.terms.specs.Combinations.{each, term}
-use Rattle.terms.specs.Drawings.{Drawing, PartList, only, and, has, places, Beneath, parts_beneath}
+use Rattle.terms.specs.Drawings.{Drawing, PartList, only, and, has, all_parts, Beneath, parts_beneath}
 use Rattle.terms.specs.Enumeration.{but, picks, combination}
 use Rattle.terms.specs.EnumerationLaws.{ways_to_pick, EveryCombination, NothingElse, AsManyAsPicks}
 use Rattle.terms.proofs.Picks.{AgreeOn, agree_once, has_once, but_same, but_own}
@@ -90,13 +90,13 @@ module _ {P W : Type 0} (kind : Performance.Ghosts P) (weights : Weight.Ghosts W
   -- a combination asks only of the parts beneath
   combination_asks : (d : Drawing) (f g : ℕ → Term P W) → AgreeOn (parts_beneath d) f g → combination kind weights d f ≡ combination kind weights d g
   combination_asks d f g a =
-      let p = performance_asks kind weights d f g (agree_once (places d) f g a) in
+      let p = performance_asks kind weights d f g (agree_once (all_parts d) f g a) in
       let v = weight_asks kind weights (parts_beneath d) f g a in
       λ i. term (p i) (v i)
 
   pub every_combination : EveryCombination kind weights
   every_combination states d pick h =
-      let r = picks_every states (parts_beneath d) pick (λ n e. h n (sym (has_once n (places d)) ∙ e)) in
+      let r = picks_every states (parts_beneath d) pick (λ n e. h n (sym (has_once n (all_parts d)) ∙ e)) in
       subst (Contains _) (combination_asks d r.0 pick r.2) (has_each (picks states (parts_beneath d)) _ r.0 _ r.1 (Contains-push [] (combination kind weights d r.0)))
 
   pub nothing_else : NothingElse kind weights
@@ -105,7 +105,7 @@ module _ {P W : Type 0} (kind : Performance.Ghosts P) (weights : Weight.Ghosts W
       let Q : Term P W → Type 0 = λ t. (pick : ℕ → Term P W) × ((n : ℕ) → Beneath n d → Contains (states n) (pick n)) × (t ≡ combination kind weights d pick) in
       all_each Q (picks states ns) (λ f. combination kind weights d f ∷ [])
       (All-weaker (From states ns) (λ f. All Q (combination kind weights d f ∷ []))
-      (λ f g. all_one Q (combination kind weights d f) (f, (λ n e. g n (has_once n (places d) ∙ e)), refl))
+      (λ f g. all_one Q (combination kind weights d f) (f, (λ n e. g n (has_once n (all_parts d) ∙ e)), refl))
       (picks states ns) (picks_from states ns))
 
   pub as_many : AsManyAsPicks kind weights

@@ -6,7 +6,7 @@ use Rattle.terms.specs.declared.term.Term.{Term}
 use Rattle.terms.specs.declared.term.Way.{Way}
 use Rattle.terms.specs.Rows.{SameDistribution, RowOf}
 use Rattle.terms.specs.Combinations.{each, term, joins, combined, combinations, bridged, bridges}
-use Rattle.terms.specs.Drawings.{Drawing, part, joined, bridge, Children, one, more, PartList, only, and, followed_by, places, places_of, NoneTwice, NoPartTwice}
+use Rattle.terms.specs.Drawings.{Drawing, part, joined, bridge, Children, one, more, PartList, only, and, followed_by, all_parts, all_parts_of, NoneTwice, NoPartTwice}
 use Rattle.terms.specs.Enumeration.{picks, performance_of, joined_performance, weight_of, enumeration}
 use Rattle.terms.specs.Stepwise.{WorkedOut, JoinedStepwise}
 use Rattle.kinds.proofs.Lawful.{Kind, Weighing}
@@ -58,20 +58,20 @@ module _ {P W : Type 0} (kind : Performance.Ghosts P) (weights : Weight.Ghosts W
   weight_asks (and n ns) f g e = ap (λ (t : T). weights.product t.weight (weight_of weights ns f)) e.0 ∙ ap (weights.product (g n).weight) (weight_asks ns f g e.1)
 
   mutual
-    pub performance_asks : (d : Drawing) → Asks (places d) (performance_of kind d)
+    pub performance_asks : (d : Drawing) → Asks (all_parts d) (performance_of kind d)
     performance_asks (part n) f g e = ap (λ (t : T). t.performance) e
     performance_asks (joined way ds) f g e = joined_asks way ds f g e
     performance_asks (bridge a b c d e) f g h =
-        let h₄ = agree_followed (followed_by (followed_by (followed_by (places a) (places b)) (places c)) (places d)) (places e) f g h in
-        let h₃ = agree_followed (followed_by (followed_by (places a) (places b)) (places c)) (places d) f g h₄.0 in
-        let h₂ = agree_followed (followed_by (places a) (places b)) (places c) f g h₃.0 in
-        let h₁ = agree_followed (places a) (places b) f g h₂.0 in
+        let h₄ = agree_followed (followed_by (followed_by (followed_by (all_parts a) (all_parts b)) (all_parts c)) (all_parts d)) (all_parts e) f g h in
+        let h₃ = agree_followed (followed_by (followed_by (all_parts a) (all_parts b)) (all_parts c)) (all_parts d) f g h₄.0 in
+        let h₂ = agree_followed (followed_by (all_parts a) (all_parts b)) (all_parts c) f g h₃.0 in
+        let h₁ = agree_followed (all_parts a) (all_parts b) f g h₂.0 in
         λ i. kind.bridge (performance_asks a f g h₁.0 i) (performance_asks b f g h₁.1 i) (performance_asks c f g h₂.1 i) (performance_asks d f g h₃.1 i) (performance_asks e f g h₄.1 i)
 
-    joined_asks : (way : Way) (ds : Children) → Asks (places_of ds) (joined_performance kind way ds)
+    joined_asks : (way : Way) (ds : Children) → Asks (all_parts_of ds) (joined_performance kind way ds)
     joined_asks way (one d) f g e = performance_asks d f g e
     joined_asks way (more ds d) f g e =
-        let s = agree_followed (places_of ds) (places d) f g e in
+        let s = agree_followed (all_parts_of ds) (all_parts d) f g e in
         λ i. joins kind way (joined_asks way ds f g s.0 i) (performance_asks d f g s.1 i)
 
   module _ (states : ℕ → List T) (w : Weighing weights) where
@@ -201,23 +201,23 @@ module _ {P W : Type 0} (kind : Performance.Ghosts P) (weights : Weight.Ghosts W
               λ i. term (kind.bridge (aa x f r.at_a i) (ab x g r.at_b i) (ac x h r.at_c i) (ad x k r.at_d i) (ae x l r.at_e i)) (v i)
 
     mutual
-      listed : (d : Drawing) → NoneTwice (places d) → listing (places d) (performance_of kind d) ≡ stepwise states d
+      listed : (d : Drawing) → NoneTwice (all_parts d) → listing (all_parts d) (performance_of kind d) ≡ stepwise states d
       listed (part n) h = each_through (states n) (λ s _. s) (λ f. term (f n).performance (f n).weight ∷ []) ∙ each_single (states n)
       listed (joined way ds) h = listed_of way ds h
       listed (bridge a b c d e) h =
-          let o = five_once (places a) (places b) (places c) (places d) (places e) h in
-          listing_bridged (places a) (places b) (places c) (places d) (places e) (performance_of kind a) (performance_of kind b) (performance_of kind c) (performance_of kind d) (performance_of kind e) (performance_asks a) (performance_asks b) (performance_asks c) (performance_asks d) (performance_asks e) o
+          let o = five_once (all_parts a) (all_parts b) (all_parts c) (all_parts d) (all_parts e) h in
+          listing_bridged (all_parts a) (all_parts b) (all_parts c) (all_parts d) (all_parts e) (performance_of kind a) (performance_of kind b) (performance_of kind c) (performance_of kind d) (performance_of kind e) (performance_asks a) (performance_asks b) (performance_asks c) (performance_asks d) (performance_asks e) o
           ∙ (λ i. bridges kind weights (listed a o.once_a i) (listed b o.once_b i) (listed c o.once_c i) (listed d o.once_d i) (listed e o.once_e i))
 
-      listed_of : (way : Way) (ds : Children) → NoneTwice (places_of ds) → listing (places_of ds) (joined_performance kind way ds) ≡ stepwise_of states way ds
+      listed_of : (way : Way) (ds : Children) → NoneTwice (all_parts_of ds) → listing (all_parts_of ds) (joined_performance kind way ds) ≡ stepwise_of states way ds
       listed_of way (one d) h = listed d h
       listed_of way (more ds d) h =
-          let s = apart_followed (places_of ds) (places d) h in
-          listing_followed (joins kind way) (places_of ds) (places d) (joined_performance kind way ds) (performance_of kind d) s.0 s.2 (joined_asks way ds) (performance_asks d)
+          let s = apart_followed (all_parts_of ds) (all_parts d) h in
+          listing_followed (joins kind way) (all_parts_of ds) (all_parts d) (joined_performance kind way ds) (performance_of kind d) s.0 s.2 (joined_asks way ds) (performance_asks d)
           ∙ (λ i. combinations weights (joins kind way) (listed_of way ds s.0 i) (listed d s.1 i))
 
     pub step_by_step : (d : Drawing) → NoPartTwice d → enumeration kind weights states d ≡ stepwise states d
-    step_by_step d h = ap (λ ns. listing ns (performance_of kind d)) (once_same (places d) h) ∙ listed d h
+    step_by_step d h = ap (λ ns. listing ns (performance_of kind d)) (once_same (all_parts d) h) ∙ listed d h
 
     -- rows
 

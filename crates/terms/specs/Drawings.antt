@@ -44,24 +44,24 @@ once (and n ns) = cond (has n ns) (once ns) (and n (once ns))
 
 -- the part at each place of a drawing, from the left
 abbrev mutual
-  pub places : Drawing → PartList
-  places (part n) = only n
-  places (joined way ds) = places_of ds
-  places (bridge a b c d e) =
-      followed_by (followed_by (followed_by (followed_by (places a) (places b)) (places c)) (places d)) (places e)
+  pub all_parts : Drawing → PartList
+  all_parts (part n) = only n
+  all_parts (joined way ds) = all_parts_of ds
+  all_parts (bridge a b c d e) =
+      followed_by (followed_by (followed_by (followed_by (all_parts a) (all_parts b)) (all_parts c)) (all_parts d)) (all_parts e)
 
-  pub places_of : Children → PartList
-  places_of (one d) = places d
-  places_of (more ds d) = followed_by (places_of ds) (places d)
+  pub all_parts_of : Children → PartList
+  all_parts_of (one d) = all_parts d
+  all_parts_of (more ds d) = followed_by (all_parts_of ds) (all_parts d)
 
 -- part n stands somewhere in the drawing
 abbrev pub Beneath : ℕ → Drawing → Type 0
-Beneath n d = has n (places d) ≡ true
+Beneath n d = has n (all_parts d) ≡ true
 
 -- the parts beneath a drawing, each once
 abbrev pub parts_beneath : Drawing → PartList
-parts_beneath d = once (places d)
+parts_beneath d = once (all_parts d)
 
 -- no part stands at two places of the drawing
 abbrev pub NoPartTwice : Drawing → Type 0
-NoPartTwice d = NoneTwice (places d)
+NoPartTwice d = NoneTwice (all_parts d)

@@ -6,14 +6,14 @@ use Rattle.terms.specs.declared.term.Term.{Term}
 use Rattle.terms.specs.declared.term.Way.{Way}
 use Rattle.terms.specs.Rows.{RowOf}
 use Rattle.terms.specs.Combinations.{each, term, joins, combinations, bridges}
-use Rattle.terms.specs.Drawings.{Drawing, part, joined, bridge, Children, one, more, PartList, only, and, has, NoneTwice, places, Beneath, parts_beneath, NoPartTwice}
+use Rattle.terms.specs.Drawings.{Drawing, part, joined, bridge, Children, one, more, PartList, only, and, has, NoneTwice, all_parts, Beneath, parts_beneath, NoPartTwice}
 use Rattle.terms.specs.Enumeration.{performance_of, combination, enumeration}
 use Rattle.terms.specs.Stepwise.{running_drawings, RunningResult, WorkedOut}
 
 -- the parts beneath a drawing are those that stand in it, each once
 abbrev pub BeneathOnce : Type 0
 BeneathOnce =
-    (d : Drawing) → NoneTwice (parts_beneath d) × ((n : ℕ) → has n (parts_beneath d) ≡ has n (places d))
+    (d : Drawing) → NoneTwice (parts_beneath d) × ((n : ℕ) → has n (parts_beneath d) ≡ has n (all_parts d))
 
 -- three children have two running results: the first two, and all
 abbrev pub RunningOfThree : Type 0

@@ -37,12 +37,12 @@ module _ {P W : Type 0} (kind : Performance.Ghosts P) (weights : Weight.Ghosts W
   abbrev Terms : Type 0
   Terms = List (Term P W)
 
-  abbrev Answer : Type 0
-  Answer = Option (Unit {0})
+  abbrev StepAnswer : Type 0
+  StepAnswer = Option (Unit {0})
 
   -- what is known of a step's calls: the row, what the step is taken for, the answer, the row after
   abbrev Calls : Type 0 → Type 1
-  Calls X = MutBor (Row P W) → X → Answer → MutBor (Row P W) → Type 0
+  Calls X = MutBor (Row P W) → X → StepAnswer → MutBor (Row P W) → Type 0
 
   -- the terms of r before place i are less than t, and those from there on greater
   abbrev pub Gap : Term P W → Terms → ℕ → Type 0
@@ -51,14 +51,14 @@ module _ {P W : Type 0} (kind : Performance.Ghosts P) (weights : Weight.Ghosts W
       IsPartitionPoint (λ x. compared x ≡ Less) (λ x. compared x ≡ Greater) r i
 
   -- more terms are merged onto the row, in the same room
-  pub record Grows (more : Terms) (before after : Row P W) (answer : Answer) : Type 0 where
+  pub record Grows (more : Terms) (before after : Row P W) (answer : StepAnswer) : Type 0 where
     pub same_room : after.room.ghost_name ≡ before.room.ghost_name
     pub merged :
         IsRow kind weights (terms_of before) →
         Merges kind weights (more ++ terms_of before) after.room.now (length_if answer after.len)
 
   -- the same of one term of no performance in the row, which belongs at the place i
-  pub record GrowsAt (t : Term P W) (i : ℕ) (before after : Row P W) (answer : Answer) : Type 0 where
+  pub record GrowsAt (t : Term P W) (i : ℕ) (before after : Row P W) (answer : StepAnswer) : Type 0 where
     pub same_room : after.room.ghost_name ≡ before.room.ghost_name
     pub merged :
         IsRow kind weights (terms_of before) → Gap t (terms_of before) i →
@@ -68,11 +68,11 @@ module _ {P W : Type 0} (kind : Performance.Ghosts P) (weights : Weight.Ghosts W
   abbrev pub OfStep : Calls (Term P W) → ((Term P W → Terms) → Type 0) → Type 0
   OfStep post claim =
       (gives : Term P W → Terms) →
-      ((row after : MutBor (Row P W)) (x : Term P W) (answer : Answer) →
+      ((row after : MutBor (Row P W)) (x : Term P W) (answer : StepAnswer) →
       post row x answer after → Grows (gives x) row.now after.now answer) → claim gives
 
   -- what the step gives for each of xs is merged onto the row
-  abbrev pub GrowsEach : Calls (Term P W) → Terms → Row P W → Row P W → Answer → Type 0
+  abbrev pub GrowsEach : Calls (Term P W) → Terms → Row P W → Row P W → StepAnswer → Type 0
   GrowsEach post xs before after answer = OfStep post λ gives. Grows (each xs gives) before after answer
 
   -- what a term whose weight is nothing gives, has no weight either
@@ -81,12 +81,12 @@ module _ {P W : Type 0} (kind : Performance.Ghosts P) (weights : Weight.Ghosts W
       (x : Term P W) → x.weight ≡ weights.nothing → SameDistribution kind weights (gives x) []
 
   -- what the step gives for x, its weight times v, is merged onto the row
-  abbrev pub GrowsTimes : Calls (Term P W) → W → Term P W → Row P W → Row P W → Answer → Type 0
+  abbrev pub GrowsTimes : Calls (Term P W) → W → Term P W → Row P W → Row P W → StepAnswer → Type 0
   GrowsTimes post v x before after answer =
       OfStep post λ gives. Grows (gives (scaled weights v x)) before after answer
 
   -- the same for each of xs, where no weight gives nothing
-  abbrev pub GrowsEachTimes : Calls (Term P W) → W → Terms → Row P W → Row P W → Answer → Type 0
+  abbrev pub GrowsEachTimes : Calls (Term P W) → W → Terms → Row P W → Row P W → StepAnswer → Type 0
   GrowsEachTimes post v xs before after answer =
       OfStep post λ gives. GivesNothing gives →
       Grows (each xs λ x. gives (scaled weights v x)) before after answer
@@ -104,7 +104,7 @@ module _ {P W : Type 0} (kind : Performance.Ghosts P) (weights : Weight.Ghosts W
           (p : P) (key : K) (v : W) → key_post p key → SameDistribution kind weights (gives key v) (wanted p v)
       pub same : (key other : K) → same_post key other true → key ≡ other
       pub steps :
-          (row after : MutBor (Row P W)) (group : Group K W) (answer : Answer) →
+          (row after : MutBor (Row P W)) (group : Group K W) (answer : StepAnswer) →
           step_post row group answer after → Grows (gives group.key group.weight) row.now after.now answer
       pub sums :
           (key : K) (u v : W) → SameDistribution kind weights (gives key (weights.sum u v)) (gives key u ++ gives key v)
@@ -116,12 +116,12 @@ module _ {P W : Type 0} (kind : Performance.Ghosts P) (weights : Weight.Ghosts W
         (wanted : P → W → Terms) (gives : K → W → Terms) → Groups wanted gives → claim wanted gives
 
     -- what is wanted of each of xs, its weight times v, is merged onto the row
-    abbrev pub GrowsByGroup : W → Terms → Row P W → Row P W → Answer → Type 0
+    abbrev pub GrowsByGroup : W → Terms → Row P W → Row P W → StepAnswer → Type 0
     GrowsByGroup v xs before after answer =
         OfGroups λ wanted gives. Grows (each_wanted wanted v xs) before after answer
 
     -- the same, and before it what a group gives
-    abbrev pub GrowsOnGroup : W → Group K W → Terms → Row P W → Row P W → Answer → Type 0
+    abbrev pub GrowsOnGroup : W → Group K W → Terms → Row P W → Row P W → StepAnswer → Type 0
     GrowsOnGroup v group xs before after answer =
         OfGroups λ wanted gives.
         Grows (gives group.key (weights.product v group.weight) ++ each_wanted wanted v xs) before after answer

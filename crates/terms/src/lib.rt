@@ -8,6 +8,4 @@ pub mod merge;
 pub mod row;
 pub mod sums;
 pub mod term;
-#[cfg(test)]
-mod tests;
 pub mod theorems;

@@ -7,6 +7,9 @@ use crate::term::Term;
 use kinds::performance::Performance;
 use kinds::weight::Weight;
 
+// How many places a row remembers: one for each slot.
+const SLOTS: usize = 256;
+
 // A row in the first `len` places of a room. The room is the caller's, lent from call to call.
 // `seen` has, by the slot of a performance, the place where one of that slot was last merged: a
 // hint, and any number does.
@@ -14,7 +17,7 @@ use kinds::weight::Weight;
 pub(crate) struct Row<'a, P, W> {
     pub(crate) room: &'a mut [Term<P, W>],
     pub(crate) len: usize,
-    seen: [u8; 256],
+    seen: [u8; SLOTS],
     ghost fits: { len ≤ length room.now },
 }
 
@@ -80,7 +83,7 @@ impl<'a, P: Performance, W: Weight> Row<'a, P, W> {
         Row {
             room,
             len,
-            seen: [0; 256],
+            seen: [0; SLOTS],
         }
     }
 
@@ -259,9 +262,9 @@ pub(crate) fn like<P: Performance>(p: P, q: P) -> bool
 
 // A place as a hint: one past 255 is none.
 fn hint(place: usize) -> u8
-    ensures { result ≡ place % 256 }
+    ensures { result ≡ place % SLOTS }
 {
-    (place & 255) as u8
+    (place % SLOTS) as u8
 }
 
 // Where p stands in the row, or would stand: the guessed place and the next are looked at before
