@@ -53,8 +53,8 @@ module _ {roomy node current U : Type 0} {r : Result U Refusal} {u : U} {a b d :
   pub goes_on : {w : U} {no_room no_node stale rest : Type 0} → r ≡ Ok w → rest → Asked roomy no_room (Asked node no_node (Asked current stale rest))
   goes_on told rest = let q = answered told in yes q.0 (yes q.1 (yes q.2 rest))
 
-  pub passed_on : {e : Refusal} {A rest : Type 0} {r' : Result A Refusal} → r ≡ Err e → r' ≡ Err e → Asked roomy (r' ≡ Err a) (Asked node (r' ≡ Err b) (Asked current (r' ≡ Err d) rest))
-  passed_on told same = elim asked [
+  pub handed_on : {e : Refusal} {A rest : Type 0} {r' : Result A Refusal} → r ≡ Err e → r' ≡ Err e → Asked roomy (r' ≡ Err a) (Asked node (r' ≡ Err b) (Asked current (r' ≡ Err d) rest))
+  handed_on told same = elim asked [
     | inl (q, inl (n, inl (s, e))) ↦ absurd (cc)
     | inl (q, inl (n, inr (s, e))) ↦ yes q (yes n (no s (cc)))
     | inl (q, inr (n, e)) ↦ yes q (no n (cc))

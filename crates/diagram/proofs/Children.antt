@@ -11,7 +11,7 @@ use Rattle.diagram.specs.declared.node.Form.TheVariants.{Part, Joined, Bridge}
 use Rattle.diagram.specs.declared.node.Node.{Node}
 use Rattle.diagram.specs.declared.table.Table.{Table}
 use Rattle.diagram.specs.Records.{Sound, blank, form_at, children_at}
-use Rattle.diagram.specs.Working.{InStore}
+use Rattle.diagram.specs.WorkingOut.{InStore}
 
 -- the form of a node, from a read of the table at any default
 pub form_is : (t : Table) (k : ℕ) → k < length t.nodes → (n : Node) (form : Form) → (get_or t.nodes k n).form ≡ form → form_at t k ≡ form

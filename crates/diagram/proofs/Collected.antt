@@ -12,12 +12,13 @@ use Rattle.diagram.specs.declared.table.Table.{Table}
 use Rattle.diagram.specs.Changes.{NodeCollected}
 use Rattle.diagram.specs.Store.{places_of, StandsAt, row_at, RowPut}
 use Rattle.diagram.specs.Results.{joining_of, RowOfDrawing, ResultsFit}
-use Rattle.diagram.specs.Working.{NodeWorkedOut}
+use Rattle.diagram.specs.WorkingOut.{NodeWorkedOut}
 use Rattle.diagram.specs.Calls.{TooLong}
 use Rattle.diagram.specs.Refusals.{Asked}
 use Rattle.diagram.proofs.Asking.{err_is}
+use Rattle.diagram.proofs.PassedOn.{err_same}
 
-width : (k : ℕ) → TERMS * k + TERMS - TERMS * k ≡ TERMS
+pub width : (k : ℕ) → TERMS * k + TERMS - TERMS * k ≡ TERMS
 width k = omega arith
 
 -- a row that stands at a node has room there
@@ -30,15 +31,8 @@ stands_short k row store e =
 pub none_or_some : {A : Type 0} {n : Option A} {a : A} → n ≡ None → n ≡ Some a → ⊥
 none_or_some p q = true≢false (ap is_some (sym q ∙ p))
 
-abbrev err_of : Refusal → Result ℕ Refusal → Refusal
-err_of d (Ok a) = d
-err_of d (Err x) = x
-
 abbrev TheErr : Refusal → Result ℕ Refusal
 TheErr e = Err e
-
-err_same : {e e' : Refusal} → TheErr e ≡ TheErr e' → e ≡ e'
-err_same {e} p = ap (err_of e) p
 
 module _ {P W : Type 0} (kind : Performance.Ghosts P) (weights : Weight.Ghosts W) (t : Table) (k : ℕ) (before after : List (Term P W)) where
   abbrev Told : Result ℕ Refusal → Table → Type 0

@@ -35,7 +35,7 @@ module _ {P W : Type 0} (kind : Performance.Ghosts P) (weights : Weight.Ghosts W
     pub none_past : (k : ℕ) → t.count ≤ k → making k ≡ None
     pub drawn : Drawn t drawing
     pub since_made : (k : ℕ) → since k → k < t.count
-    pub current : (k : ℕ) → k < t.count → (status_at t k ≡ UpToDate) ↔ ((form_at t k ≡ Part) ⊎ since k)
+    pub up_to_date : (k : ℕ) → k < t.count → (status_at t k ≡ UpToDate) ↔ ((form_at t k ≡ Part) ⊎ since k)
     pub rows : (k : ℕ) → k < t.count → status_at t k ≡ UpToDate → RowOf kind weights (enumeration kind weights states (drawing k)) (row_at t s k)
     pub full : (k : ℕ) → k < t.count → status_at t k ≡ UpToDate → length (row_at t s k) ≡ size_at t k
 
@@ -62,7 +62,7 @@ module _ {P W : Type 0} {kind : Performance.Ghosts P} {weights : Weight.Ghosts W
     none_past = h.none_past;
     drawn = h.drawn;
     since_made = h.since_made;
-    current = h.current;
+    up_to_date = h.up_to_date;
     rows = λ k l c. subst (RowOf kind weights (enumeration kind weights states (drawing k))) (sym (row k l)) (h.rows k l c);
     full = λ k l c. ap length (row k l) ∙ h.full k l c;
   }
@@ -78,7 +78,7 @@ blank_holds kind weights since never t s none = record {
   none_past = λ k l. refl;
   drawn = λ k l. absurd (omega (arith, l, none));
   since_made = λ k c. absurd (never k c);
-  current = λ k l. absurd (omega (arith, l, none));
+  up_to_date = λ k l. absurd (omega (arith, l, none));
   rows = λ k l. absurd (omega (arith, l, none));
   full = λ k l. absurd (omega (arith, l, none));
 }

@@ -19,7 +19,7 @@ use Rattle.diagram.specs.declared.table.Table.{Table}
 use Rattle.diagram.specs.Calls.{Collected}
 use Rattle.diagram.specs.Changes.{NodeCollected}
 use Rattle.diagram.specs.Histories.{collecting, number, Reply, Entry, History, made, drawing_of, children_of, IsPart, Answers}
-use Rattle.diagram.specs.InTurn.{CollectedTo, none_yet, past_part, one_more, InTurn, CollectsInTurn, Short, TooLong, FirstAnswer, Leaves, CollectsAll}
+use Rattle.diagram.specs.InTurn.{CollectedTo, none_yet, past_part, one_more, InTurn, CollectsInTurn, Short, NotShort, FirstAnswer, Leaves, CollectsAll}
 use Rattle.diagram.specs.Records.{form_at, status_at, children_at}
 use Rattle.diagram.specs.RightAnswers.{RightAnswer, RowOfNode, ArmsShort, ResultsShort}
 use Rattle.diagram.specs.Runs.{as_reply, Run, next}
@@ -42,7 +42,7 @@ module _ {P W : Type 0} (kind : Performance.Ghosts P) (weights : Weight.Ghosts W
   current_to few (past_part {n} {d'} c is) =
       let before = current_to (omega (arith, few)) c in
       let there : n < (records d').count = omega (arith, few, before.0) in
-      (before.0, below_more (λ k. status_at (records d') k ≡ UpToDate) n before.1 ((d'.sound.at n there).own.part_is_current is))
+      (before.0, below_more (λ k. status_at (records d') k ≡ UpToDate) n before.1 ((d'.sound.at n there).own.part_is_up_to_date is))
   current_to few (one_more {n} {size} {d'} {d''} c x) =
       let before = current_to (omega (arith, few)) c in
       let there : n < (records d').count = omega (arith, few, before.0) in
@@ -172,7 +172,7 @@ module _ {P W : Type 0} (kind : Performance.Ghosts P) (weights : Weight.Ghosts W
       )
 
       stopped : {k : ℕ} {why : Refusal} {between d' : Diagram P W} {left s' : Terms} → k < made h → CollectedTo kind weights d s k between left → form_at (records between) k ≢ Part →
-          Collected kind weights (records between) left k (Err why) (records d') s' → ((j : ℕ) → j < k → Short kind weights h j) × TooLong kind weights h k why × Leaves kind weights h k s d' s'
+          Collected kind weights (records between) left k (Err why) (records d') s' → ((j : ℕ) → j < k → Short kind weights h j) × NotShort kind weights h k why × Leaves kind weights h k s d' s'
       stopped {k} {why} {between} {d'} {left} {s'} node c joined x =
           let at = reached (omega (arith, node)) c in
           let f = at.through.first in
@@ -189,7 +189,7 @@ module _ {P W : Type 0} (kind : Performance.Ghosts P) (weights : Weight.Ghosts W
           err_same : {why why' : Refusal} → ◌≡◌ {A = Reply P W} (Err why) (Err why') → why ≡ why'
           err_same {why} e = cc e
 
-          long : Asked (ArmsShort kind weights h k) (◌≡◌ {A = Reply P W} (Err why) (Err LongArm)) (Asked (ResultsShort kind weights h k) (◌≡◌ {A = Reply P W} (Err why) (Err LongResult)) ((row : Terms) × RowOfNode kind weights h k row × ◌≡◌ {A = Reply P W} (Err why) (Ok (number (length row))))) → TooLong kind weights h k why
+          long : Asked (ArmsShort kind weights h k) (◌≡◌ {A = Reply P W} (Err why) (Err LongArm)) (Asked (ResultsShort kind weights h k) (◌≡◌ {A = Reply P W} (Err why) (Err LongResult)) ((row : Terms) × RowOfNode kind weights h k row × ◌≡◌ {A = Reply P W} (Err why) (Ok (number (length row))))) → NotShort kind weights h k why
           long (inr (n, is)) = inl (n, err_same is)
           long (inl (a, inr (n, is))) = inr (a, n, err_same is)
           long (inl (a, inl (b, (row, of, is)))) = absurd (cc)

@@ -22,7 +22,7 @@ use Rattle.diagram.specs.Records.{Sound, form_at, size_at, children_at}
 use Rattle.diagram.specs.Store.{places_of, row_at}
 use Rattle.diagram.specs.Histories.{followed_by_all}
 use Rattle.diagram.specs.Results.{drawn_form, joining_of, RowOfDrawing, ResultsFit}
-use Rattle.diagram.specs.Working.{RowFound, NodeFound}
+use Rattle.diagram.specs.WorkingOut.{RowFound, NodeFound}
 use Rattle.diagram.proofs.Children.{five}
 use Rattle.diagram.proofs.Results.{first_once, joining_once, fit_more, none_among, more_same, bridge_same, all_running}
 

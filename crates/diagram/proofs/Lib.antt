@@ -8,7 +8,7 @@ pub mod Lengths
 pub mod Children
 pub mod Joining
 pub mod StoreWrites
-pub mod Working
+pub mod WorkingOut
 pub mod Asking
 pub mod Collected
 pub mod Drawn
@@ -16,6 +16,7 @@ pub mod Facts
 pub mod Results
 pub mod PartsOfChildren
 pub mod PartsBelow
+pub mod PassedOn
 pub mod CollectedSince
 pub mod HistoryFits
 pub mod NodeMade

@@ -18,7 +18,7 @@ use Rattle.diagram.specs.Records.{Sound, form_at, status_at, size_at, children_a
 use Rattle.diagram.specs.Changes.{PartRestated, NodeCollected}
 use Rattle.diagram.specs.Store.{places_of, row_at, RowPut}
 use Rattle.diagram.specs.Histories.{Making}
-use Rattle.diagram.proofs.RecordsSound.{not_both, current_unless}
+use Rattle.diagram.proofs.RecordsSound.{not_both, up_to_date_unless}
 use Rattle.diagram.proofs.Climbing.{beneath_from_above, above_from_beneath}
 use Rattle.diagram.proofs.Drawn.{Drawn, drawn_form}
 use Rattle.diagram.proofs.PartsBelow.{part_or_not, beneath_within, within_beneath, part_drawn}
@@ -52,7 +52,7 @@ module _ {P W : Type 0} (kind : Performance.Ghosts P) (weights : Weight.Ghosts W
       none_past = λ k l. h.none_past k (omega (arith, l, c.number));
       drawn = drawn' c.number c.forms c.children;
       since_made = λ k x. let b = h.since_made k (still k x) in omega (arith, b, c.number);
-      current = λ k l. now k (at l);
+      up_to_date = λ k l. now k (at l);
       rows = λ k l x. elim (cases_eq k p) [
         | inl e ↦ subst (λ z. RowOf kind weights (enumeration kind weights states' (drawing z)) (row_at t' s' z)) (sym e) new_row
         | inr apart ↦
@@ -60,11 +60,11 @@ module _ {P W : Type 0} (kind : Performance.Ghosts P) (weights : Weight.Ghosts W
             let free = stands_not k b apart x in
             let same = only_parts_beneath kind weights states' states (drawing k) (λ j i. but_else p given states j (λ e. free (subst (λ z. StandsIn z (drawing k)) e i))) in
             subst (RowOf kind weights (enumeration kind weights states' (drawing k))) (sym (row_kept k b apart))
-            (subst (λ z. RowOf kind weights z (row_at t s k)) (sym same) (h.rows k b (was_current k b x)))
+            (subst (λ z. RowOf kind weights z (row_at t s k)) (sym same) (h.rows k b (was_up_to_date k b x)))
       ];
       full = λ k l x. elim (cases_eq k p) [
         | inl e ↦ subst (λ z. length (row_at t' s' z) ≡ size_at t' z) (sym e) (ap length row_now ∙ sym c.resized)
-        | inr apart ↦ ap length (row_kept k (at l) apart) ∙ h.full k (at l) (was_current k (at l) x) ∙ sym (c.sizes k (at l) apart)
+        | inr apart ↦ ap length (row_kept k (at l) apart) ∙ h.full k (at l) (was_up_to_date k (at l) x) ∙ sym (c.sizes k (at l) apart)
       ];
     }
       where
@@ -74,8 +74,8 @@ module _ {P W : Type 0} (kind : Performance.Ghosts P) (weights : Weight.Ghosts W
         states' : ℕ → List (Term P W)
         states' = but p given states
 
-        was_current : (k : ℕ) → k < t.count → status_at t' k ≡ UpToDate → status_at t k ≡ UpToDate
-        was_current k b x = current_unless (status_at t k) (λ y. not_both ((c.stale k b).1 (inl y)) x)
+        was_up_to_date : (k : ℕ) → k < t.count → status_at t' k ≡ UpToDate → status_at t k ≡ UpToDate
+        was_up_to_date k b x = up_to_date_unless (status_at t k) (λ y. not_both ((c.stale k b).1 (inl y)) x)
 
         -- a node that is up to date does not have p in it, but p itself
         stands_not : (k : ℕ) → k < t.count → k ≢ p → status_at t' k ≡ UpToDate → ¬ StandsIn p (drawing k)
@@ -86,9 +86,9 @@ module _ {P W : Type 0} (kind : Performance.Ghosts P) (weights : Weight.Ghosts W
 
         now : (k : ℕ) → k < t.count → (status_at t' k ≡ UpToDate) ↔ ((form_at t' k ≡ Part) ⊎ since' k)
         now k b = elim (part_or_not (form_at t k)) [
-          | inl y ↦ (λ x. inl (c.forms k b ∙ y), λ x. (sound'.at k (omega (arith, b, c.number))).own.part_is_current (c.forms k b ∙ y))
+          | inl y ↦ (λ x. inl (c.forms k b ∙ y), λ x. (sound'.at k (omega (arith, b, c.number))).own.part_is_up_to_date (c.forms k b ∙ y))
           | inr other ↦ (
-            (λ x. elim ((h.current k b).0 (was_current k b x)) [
+            (λ x. elim ((h.up_to_date k b).0 (was_up_to_date k b x)) [
               | inl y ↦ inl (c.forms k b ∙ y)
               | inr z ↦ inr ((spared k b).1 (z, stands_not k b (λ e. other (subst (λ z. form_at t z ≡ Part) (sym e) is_a_part)) x))
             ]),
@@ -96,8 +96,8 @@ module _ {P W : Type 0} (kind : Performance.Ghosts P) (weights : Weight.Ghosts W
               | inl y ↦ absurd (other (sym (c.forms k b) ∙ y))
               | inr z ↦
                   let was = (spared k b).0 z in
-                  current_unless (status_at t' k) (λ y. elim ((c.stale k b).0 y) [
-                    | inl w ↦ not_both w ((h.current k b).1 (inr was.0))
+                  up_to_date_unless (status_at t' k) (λ y. elim ((c.stale k b).0 y) [
+                    | inl w ↦ not_both w ((h.up_to_date k b).1 (inr was.0))
                     | inr w ↦ was.1 (within_beneath sound h.drawn k p b low is_a_part (inr (above_from_beneath sound b w)))
                   ])
             ]),
@@ -129,12 +129,12 @@ module _ {P W : Type 0} (kind : Performance.Ghosts P) (weights : Weight.Ghosts W
       none_past = λ k l. h.none_past k (omega (arith, l, c.number));
       drawn = drawn' c.number form c.children;
       since_made = λ k x. elim (still k x) [ inl e ↦ omega (arith, e, low, c.number) | inr y ↦ let b = h.since_made k y in omega (arith, b, c.number) ];
-      current = λ k l. elim (cases_eq k p) [
+      up_to_date = λ k l. elim (cases_eq k p) [
         | inl e ↦ subst (λ z. (status_at t' z ≡ UpToDate) ↔ ((form_at t' z ≡ Part) ⊎ since' z)) (sym e) ((λ _. inr ((now p low).1 (inl refl))), (λ _. ap (λ (x : Node). x.status) c.collected))
         | inr apart ↦
             let b = at l in (
-              (λ x. elim ((h.current k b).0 (sym (status k b apart) ∙ x)) [ inl y ↦ inl (form k b ∙ y) | inr z ↦ inr ((now k b).1 (inr z)) ]),
-              (λ x. status k b apart ∙ (h.current k b).1 (elim x [
+              (λ x. elim ((h.up_to_date k b).0 (sym (status k b apart) ∙ x)) [ inl y ↦ inl (form k b ∙ y) | inr z ↦ inr ((now k b).1 (inr z)) ]),
+              (λ x. status k b apart ∙ (h.up_to_date k b).1 (elim x [
                 | inl y ↦ inl (sym (form k b) ∙ y)
                 | inr z ↦ elim ((now k b).0 z) [ inl e ↦ absurd (apart e) | inr w ↦ inr w ]
               ])),

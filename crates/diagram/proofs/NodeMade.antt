@@ -105,10 +105,10 @@ module _ {P W : Type 0} (kind : Performance.Ghosts P) (weights : Weight.Ghosts W
       none_past = none_past' (added given) g;
       drawn = drawn' (added given) g;
       since_made = λ k c. let b = h.since_made k ((as_before k).0 c) in omega (arith, b, a.number);
-      current = λ k l. elim (upto (added given) g l) [
+      up_to_date = λ k l. elim (upto (added given) g l) [
         | inl b ↦ (
-          λ c. elim ((h.current k b).0 (sym (status k b) ∙ c)) [ inl p ↦ inl (form k b ∙ p) | inr x ↦ inr ((as_before k).1 x) ],
-          λ c. status k b ∙ (h.current k b).1 (elim c [ inl p ↦ inl (sym (form k b) ∙ p) | inr x ↦ inr ((as_before k).0 x) ]),
+          λ c. elim ((h.up_to_date k b).0 (sym (status k b) ∙ c)) [ inl p ↦ inl (form k b ∙ p) | inr x ↦ inr ((as_before k).1 x) ],
+          λ c. status k b ∙ (h.up_to_date k b).1 (elim c [ inl p ↦ inl (sym (form k b) ∙ p) | inr x ↦ inr ((as_before k).0 x) ]),
         )
         | inr e ↦ subst (λ z. (status_at t' z ≡ UpToDate) ↔ ((form_at t' z ≡ Part) ⊎ since' z)) (sym e) (λ _. inl (ap (λ (x : Node). x.form) a.record_made), λ _. ap (λ (x : Node). x.status) a.record_made)
       ];
@@ -165,10 +165,10 @@ module _ {P W : Type 0} (kind : Performance.Ghosts P) (weights : Weight.Ghosts W
       none_past = none_past' m g;
       drawn = drawn' m g;
       since_made = λ k c. let b = h.since_made k ((as_before k).0 c) in omega (arith, b, a.number);
-      current = λ k l. elim (upto m g l) [
+      up_to_date = λ k l. elim (upto m g l) [
         | inl b ↦ (
-          λ c. elim ((h.current k b).0 (sym (seen (λ (x : Node). x.status) (λ _ _. refl) k b) ∙ c)) [ inl p ↦ inl (seen (λ (x : Node). x.form) (λ _ _. refl) k b ∙ p) | inr x ↦ inr ((as_before k).1 x) ],
-          λ c. seen (λ (x : Node). x.status) (λ _ _. refl) k b ∙ (h.current k b).1 (elim c [ inl p ↦ inl (sym (seen (λ (x : Node). x.form) (λ _ _. refl) k b) ∙ p) | inr x ↦ inr ((as_before k).0 x) ]),
+          λ c. elim ((h.up_to_date k b).0 (sym (seen (λ (x : Node). x.status) (λ _ _. refl) k b) ∙ c)) [ inl p ↦ inl (seen (λ (x : Node). x.form) (λ _ _. refl) k b ∙ p) | inr x ↦ inr ((as_before k).1 x) ],
+          λ c. seen (λ (x : Node). x.status) (λ _ _. refl) k b ∙ (h.up_to_date k b).1 (elim c [ inl p ↦ inl (sym (seen (λ (x : Node). x.form) (λ _ _. refl) k b) ∙ p) | inr x ↦ inr ((as_before k).0 x) ]),
         )
         | inr e ↦ subst (λ z. (status_at t' z ≡ UpToDate) ↔ ((form_at t' z ≡ Part) ⊎ since' z)) (sym e) (
           (λ c. absurd (not_both (ap (λ (x : Node). x.status) a.record_made) c)),

@@ -50,10 +50,10 @@ abbrev first_of : {A : Type 0} → ℕ → Option (ℕ × A) → ℕ
 first_of d None = d
 first_of d (Some x) = x.0
 
-module _ {P W : Type 0} (kind : Performance.Ghosts P) (weights : Weight.Ghosts W) where
-  abbrev entry : Call P W → ℕ → Reply P W → Entry P W
-  entry call lent reply = record { call = call; lent = lent; reply = reply }
+abbrev pub entry : {P W : Type 0} → Call P W → ℕ → Reply P W → Entry P W
+entry call lent reply = record { call = call; lent = lent; reply = reply }
 
+module _ {P W : Type 0} (kind : Performance.Ghosts P) (weights : Weight.Ghosts W) where
   -- an entry that makes, restates and collects nothing
   pub record Idle (e : Entry P W) : Type 0 where
     pub makes_none : makes e ≡ None
@@ -98,9 +98,9 @@ module _ {P W : Type 0} (kind : Performance.Ghosts P) (weights : Weight.Ghosts W
           none_past = holds.none_past;
           drawn = holds.drawn;
           since_made = λ k c. holds.since_made k ((as_before k).0 c);
-          current = λ k b. (
-            (λ x. elim ((holds.current k b).0 x) [ inl p ↦ inl p | inr c ↦ inr ((as_before k).1 c) ]),
-            (λ x. (holds.current k b).1 (elim x [ inl p ↦ inl p | inr c ↦ inr ((as_before k).0 c) ])),
+          up_to_date = λ k b. (
+            (λ x. elim ((holds.up_to_date k b).0 x) [ inl p ↦ inl p | inr c ↦ inr ((as_before k).1 c) ]),
+            (λ x. (holds.up_to_date k b).1 (elim x [ inl p ↦ inl p | inr c ↦ inr ((as_before k).0 c) ])),
           );
           rows = holds.rows;
           full = holds.full;
@@ -287,9 +287,9 @@ module _ {P W : Type 0} (kind : Performance.Ghosts P) (weights : Weight.Ghosts W
         through (node_question kind weights h t s sound holds k) a (λ x. refused_after (collecting k) reply r number NoNode x e)
         (λ low a. through (not_part low) a (λ x. refused_after (collecting k) reply r number NotJoined x e)
         (λ joined a. through (children_question kind weights h t s sound holds k low) a (λ x. refused_after (collecting k) reply r number StaleChild x e)
-        (λ current a. through (arms_question kind weights h t s sound holds laws weigh k low current) a (λ x. refused_after (collecting k) reply r number LongArm x e)
-        (λ q a. through (tells low joined current).fits a (λ x. too_long_after k reply r x e)
-        (λ fit a. worked low joined current a.0 a.1 a.2 a.3 a.4)))))
+        (λ up_to_date a. through (arms_question kind weights h t s sound holds laws weigh k low up_to_date) a (λ x. refused_after (collecting k) reply r number LongArm x e)
+        (λ q a. through (tells low joined up_to_date).fits a (λ x. too_long_after k reply r x e)
+        (λ fit a. worked low joined up_to_date a.0 a.1 a.2 a.3 a.4)))))
       where
         not_part : k < t.count → (form_at t k ≢ Part) ↔ (¬ IsPart h k)
         not_part low =
@@ -298,20 +298,20 @@ module _ {P W : Type 0} (kind : Performance.Ghosts P) (weights : Weight.Ghosts W
 
         -- the row of the node is that of its drawing, from the children's rows as from the states of the parts
         tells : k < t.count → form_at t k ≢ Part → All (λ c. status_at t c ≡ UpToDate) (children_at t k) → SameResults kind weights (row_at t s) (states_of h) (joining_of t k) (drawing_of h k)
-        tells low joined current =
+        tells low joined up_to_date =
             let drawn = holds.drawn k low in
             subst (SameResults kind weights (row_at t s) (states_of h) (joining_of t k)) (sym drawn) (joining_same laws weigh (row_at t s) (states_of h) sound k low joined (drawing_of h) (subst NoPartTwice drawn (none_twice sound holds.drawn k low))
             (All-weaker (Contains (children_at t k)) (λ c. SameDistribution kind weights (row_at t s c) (enumeration kind weights (states_of h) (drawing_of h c)))
-            (λ c i p. sym ((holds.rows c (child_known kind weights h t s sound holds k low c i) (All-contains (λ c. status_at t c ≡ UpToDate) (children_at t k) c current i)).same p))
+            (λ c i p. sym ((holds.rows c (child_known kind weights h t s sound holds k low c i) (All-contains (λ c. status_at t c ≡ UpToDate) (children_at t k) c up_to_date i)).same p))
             (children_at t k) (All-contains_itself (children_at t k))))
 
         worked : k < t.count → form_at t k ≢ Part → All (λ c. status_at t c ≡ UpToDate) (children_at t k) → (row : List (Term P W)) →
             RowOfDrawing kind weights (row_at t s) (joining_of t k) row → r ≡ Ok (length row) → NodeCollected t t' k (length row) → RowPut k row s s' →
             ((row : List (Term P W)) × RowOfNode kind weights h k row × (reply ≡ Ok (number (length row)))) × After h (collecting k) lent reply t' s'
-        worked low joined current row found ok changed put =
+        worked low joined up_to_date row found ok changed put =
             let is = e ∙ ap (as_reply number) ok in
             let now : Entry P W = entry (collecting k) lent (Ok (number (length row))) in
-            let is_row = (tells low joined current).rows row found in (
+            let is_row = (tells low joined up_to_date).rows row found in (
               (row, is_row, is),
               subst (λ z. After h (collecting k) lent z t' s') (sym is) (
                 holds_collected kind weights (made h) (making_of h) (drawing_of h) (states_of h) (CollectedSince h) t t' s s' sound sound' holds k low
@@ -335,7 +335,7 @@ module _ {P W : Type 0} (kind : Performance.Ghosts P) (weights : Weight.Ghosts W
     asking_right k question reply r to x roomy same_t same_s (inl (q₀, a)) e tells =
         through (node_question kind weights h t s sound holds k) a (λ y. (e ∙ ap (as_reply to) y, unmoved))
         (λ low a. through (current_question kind weights h t s sound holds k low) a (λ y. (e ∙ ap (as_reply to) y, unmoved))
-        (λ current a. ((row_at t s k, holds.rows k low current, tells (row_at t s k) refl (holds.full k low current) a), unmoved)))
+        (λ up_to_date a. ((row_at t s k, holds.rows k low up_to_date, tells (row_at t s k) refl (holds.full k low up_to_date) a), unmoved)))
       where
         unmoved : After h (asking k question) lent reply t' s'
         unmoved = idle_after (asking k question) reply (record { makes_none = refl; restates_none = refl; collects_none = refl }) same_t (λ j b. ap (places_of j) same_s)

@@ -1,11 +1,11 @@
 -- In the drawing of a node stand exactly the parts at and below it, each once.
 use Rattle.std.proofs.Common.{◌≡◌, ◌≢◌, ◌⊎◌, ◌↔◌, ℕ, zero, suc, ◌<◌, true, List, ◌∷◌, Contains, AllPairs, Option, Some, unwrap_or, sym, refl, ap, ◌∙◌, subst, inl, inr, arith}
 use Rattle.std.proofs.lemmas.Bool.{true≢false, eq-eqb, eqb-true}
-use Rattle.terms.specs.Drawings.{Drawing, part, one, has, NoneTwice, places, places_of, Beneath, NoPartTwice}
+use Rattle.terms.specs.Drawings.{Drawing, part, one, has, NoneTwice, all_parts, all_parts_of, Beneath, NoPartTwice}
 use Rattle.diagram.specs.declared.node.Form.{Form}
 use Rattle.diagram.specs.declared.node.Form.TheVariants.{Part, Joined, Bridge}
 use Rattle.diagram.specs.declared.table.Table.{Table}
-use Rattle.diagram.specs.Records.{Sound, Uses, form_at, children_at, Beneath as Below, child, deeper}
+use Rattle.diagram.specs.Records.{Sound, Uses, form_at, children_at, NodeBeneath as Below, child, deeper}
 use Rattle.diagram.specs.Histories.{followed_by_all}
 use Rattle.diagram.proofs.FoundByTest.{test_finds}
 use Rattle.diagram.proofs.Climbing.{Above, user, higher, above_then, child_is_below, beneath_from_above}
@@ -79,11 +79,11 @@ module _ {t : Table} (s : Sound t) where
 
     -- a node that is no part has the places of its children, one after another
     children_places : (k : ℕ) → k < t.count → form_at t k ≢ Part →
-        (c : ℕ) × (cs : List ℕ) × (children_at t k ≡ c ∷ cs) × (places (drawing k) ≡ places_of (followed_by_all (one (drawing c)) drawing cs))
+        (c : ℕ) × (cs : List ℕ) × (children_at t k ≡ c ∷ cs) × (all_parts (drawing k) ≡ all_parts_of (followed_by_all (one (drawing c)) drawing cs))
     children_places k h other =
         let own = (s.at k h).own in
         let r = drawn_places drawing (form_at t k) k (children_at t k) other own.joins_two_or_more own.bridges_five in
-        (r.0, r.1, r.2, ap places (drawn k h) ∙ r.3)
+        (r.0, r.1, r.2, ap all_parts (drawn k h) ∙ r.3)
 
     -- in its drawing stands what stands in that of a child
     pub beneath_children : (k n : ℕ) → k < t.count → form_at t k ≢ Part → Beneath n (drawing k) ↔ ((c : ℕ) × Contains (children_at t k) c × Beneath n (drawing c))

@@ -2,7 +2,7 @@
 use Rattle.std.proofs.Common.{◌≡◌, ◌≢◌, ◌⊎◌, ◌↔◌, ℕ, zero, suc, ◌≤◌, true, eqb, List, [], ◌∷◌, length, Contains, AllPairs, sym, refl, ap, ◌∙◌, subst, inl, inr, arith}
 use Rattle.std.proofs.lemmas.Bool.{true≢false, eq-eqb, or_cases, or_left, or_right, false_from_ne_true}
 use Rattle.terms.specs.declared.term.Way.{Way}
-use Rattle.terms.specs.Drawings.{Drawing, joined, bridge, Children, one, more, PartList, only, and, followed_by, has, NoneTwice, places, places_of, Beneath, NoPartTwice}
+use Rattle.terms.specs.Drawings.{Drawing, joined, bridge, Children, one, more, PartList, only, and, followed_by, has, NoneTwice, all_parts, all_parts_of, Beneath, NoPartTwice}
 use Rattle.diagram.specs.declared.limits.TheConstants.{FEWEST_CHILDREN, ARMS}
 use Rattle.diagram.specs.declared.node.Form.{Form}
 use Rattle.diagram.specs.declared.node.Form.TheVariants.{Part, Joined, Bridge}
@@ -60,41 +60,41 @@ others_apart x xs h i j d l m = h (suc i) (suc j) d (omega (arith, l)) (omega (a
 -- the parts of children that are drawn one after another, behind others
 
 module _ (drawing : ℕ → Drawing) where
-  in_some_child : (ds : Children) (cs : List ℕ) (n : ℕ) → has n (places_of (followed_by_all ds drawing cs)) ≡ true → (has n (places_of ds) ≡ true) ⊎ ((c : ℕ) × Contains cs c × Beneath n (drawing c))
+  in_some_child : (ds : Children) (cs : List ℕ) (n : ℕ) → has n (all_parts_of (followed_by_all ds drawing cs)) ≡ true → (has n (all_parts_of ds) ≡ true) ⊎ ((c : ℕ) × Contains cs c × Beneath n (drawing c))
   in_some_child ds [] n h = inl h
   in_some_child ds (c ∷ cs) n h = elim (in_some_child (more ds (drawing c)) cs n h) [
-    | inl e ↦ elim (has_either n (places_of ds) (places (drawing c)) e) [ inl f ↦ inl f | inr f ↦ inr (c, first_of_all c cs, f) ]
+    | inl e ↦ elim (has_either n (all_parts_of ds) (all_parts (drawing c)) e) [ inl f ↦ inl f | inr f ↦ inr (c, first_of_all c cs, f) ]
     | inr r ↦ inr (r.0, one_of_others c r.0 cs r.1, r.2)
   ]
 
-  from_before : (ds : Children) (cs : List ℕ) (n : ℕ) → has n (places_of ds) ≡ true → has n (places_of (followed_by_all ds drawing cs)) ≡ true
+  from_before : (ds : Children) (cs : List ℕ) (n : ℕ) → has n (all_parts_of ds) ≡ true → has n (all_parts_of (followed_by_all ds drawing cs)) ≡ true
   from_before ds [] n h = h
-  from_before ds (c ∷ cs) n h = from_before (more ds (drawing c)) cs n (has_first n (places_of ds) (places (drawing c)) h)
+  from_before ds (c ∷ cs) n h = from_before (more ds (drawing c)) cs n (has_first n (all_parts_of ds) (all_parts (drawing c)) h)
 
-  from_child : (ds : Children) (cs : List ℕ) (n c : ℕ) → Contains cs c → Beneath n (drawing c) → has n (places_of (followed_by_all ds drawing cs)) ≡ true
+  from_child : (ds : Children) (cs : List ℕ) (n c : ℕ) → Contains cs c → Beneath n (drawing c) → has n (all_parts_of (followed_by_all ds drawing cs)) ≡ true
   from_child ds [] n c i b = absurd (omega (arith, i.1))
   from_child ds (x ∷ cs) n c i b = elim (first_or_other x c cs i) [
-    | inl e ↦ from_before (more ds (drawing x)) cs n (has_second n (places_of ds) (places (drawing x)) (subst (λ z. Beneath n (drawing z)) (sym e) b))
+    | inl e ↦ from_before (more ds (drawing x)) cs n (has_second n (all_parts_of ds) (all_parts (drawing x)) (subst (λ z. Beneath n (drawing z)) (sym e) b))
     | inr o ↦ from_child (more ds (drawing x)) cs n c o b
   ]
 
-  none_twice_in_all : (ds : Children) (cs : List ℕ) → NoneTwice (places_of ds) → ((c : ℕ) → Contains cs c → NoPartTwice (drawing c)) → AllPairs ◌≢◌ cs →
-      ((n c : ℕ) → Contains cs c → has n (places_of ds) ≡ true → ¬ Beneath n (drawing c)) →
-      ((n c d : ℕ) → Contains cs c → Contains cs d → Beneath n (drawing c) → Beneath n (drawing d) → c ≡ d) → NoneTwice (places_of (followed_by_all ds drawing cs))
+  none_twice_in_all : (ds : Children) (cs : List ℕ) → NoneTwice (all_parts_of ds) → ((c : ℕ) → Contains cs c → NoPartTwice (drawing c)) → AllPairs ◌≢◌ cs →
+      ((n c : ℕ) → Contains cs c → has n (all_parts_of ds) ≡ true → ¬ Beneath n (drawing c)) →
+      ((n c d : ℕ) → Contains cs c → Contains cs d → Beneath n (drawing c) → Beneath n (drawing d) → c ≡ d) → NoneTwice (all_parts_of (followed_by_all ds drawing cs))
   none_twice_in_all ds [] h once different apart same = h
   none_twice_in_all ds (c ∷ cs) h once different apart same =
       none_twice_in_all (more ds (drawing c)) cs
-      (none_twice_followed (places_of ds) (places (drawing c)) h (once c (first_of_all c cs)) (λ n e. apart n c (first_of_all c cs) e))
+      (none_twice_followed (all_parts_of ds) (all_parts (drawing c)) h (once c (first_of_all c cs)) (λ n e. apart n c (first_of_all c cs) e))
       (λ d i. once d (one_of_others c d cs i))
       (others_apart c cs different)
-      (λ n d i e b. elim (has_either n (places_of ds) (places (drawing c)) e) [
+      (λ n d i e b. elim (has_either n (all_parts_of ds) (all_parts (drawing c)) e) [
         | inl f ↦ apart n d (one_of_others c d cs i) f b
         | inr f ↦ apart_from_others c d cs different i (same n c d (first_of_all c cs) (one_of_others c d cs i) f b)
       ])
       (λ n d e i j. same n d e (one_of_others c d cs i) (one_of_others c e cs j))
 
   -- in all the children together stands what stands in one of them
-  pub beneath_all : (c : ℕ) (cs : List ℕ) (n : ℕ) → (has n (places_of (followed_by_all (one (drawing c)) drawing cs)) ≡ true) ↔ ((d : ℕ) × Contains (c ∷ cs) d × Beneath n (drawing d))
+  pub beneath_all : (c : ℕ) (cs : List ℕ) (n : ℕ) → (has n (all_parts_of (followed_by_all (one (drawing c)) drawing cs)) ≡ true) ↔ ((d : ℕ) × Contains (c ∷ cs) d × Beneath n (drawing d))
   beneath_all c cs n = (
     (λ h. elim (in_some_child (one (drawing c)) cs n h) [ inl e ↦ (c, first_of_all c cs, e) | inr r ↦ (r.0, one_of_others c r.0 cs r.1, r.2) ]),
     (λ r. elim (first_or_other c r.0 cs r.1) [
@@ -105,7 +105,7 @@ module _ (drawing : ℕ → Drawing) where
 
   -- children that are apart, none of which has a part twice, and of which no two have one part, have none twice together
   pub none_twice_all : (c : ℕ) (cs : List ℕ) → ((d : ℕ) → Contains (c ∷ cs) d → NoPartTwice (drawing d)) → AllPairs ◌≢◌ (c ∷ cs) →
-      ((n d e : ℕ) → Contains (c ∷ cs) d → Contains (c ∷ cs) e → Beneath n (drawing d) → Beneath n (drawing e) → d ≡ e) → NoneTwice (places_of (followed_by_all (one (drawing c)) drawing cs))
+      ((n d e : ℕ) → Contains (c ∷ cs) d → Contains (c ∷ cs) e → Beneath n (drawing d) → Beneath n (drawing e) → d ≡ e) → NoneTwice (all_parts_of (followed_by_all (one (drawing c)) drawing cs))
   none_twice_all c cs once different same =
       none_twice_in_all (one (drawing c)) cs
       (once c (first_of_all c cs))
@@ -116,7 +116,7 @@ module _ (drawing : ℕ → Drawing) where
 
   -- a drawing that is joined or a bridge has the places of its children, one after another
   pub drawn_places : (form : Form) (k : ℕ) (xs : List ℕ) → form ≢ Part → ((way : Way) → form ≡ Joined way → FEWEST_CHILDREN ≤ length xs) → (form ≡ Bridge → length xs ≡ ARMS) →
-      (c : ℕ) × (cs : List ℕ) × (xs ≡ c ∷ cs) × (places (drawn_form form k xs drawing) ≡ places_of (followed_by_all (one (drawing c)) drawing cs))
+      (c : ℕ) × (cs : List ℕ) × (xs ≡ c ∷ cs) × (all_parts (drawn_form form k xs drawing) ≡ all_parts_of (followed_by_all (one (drawing c)) drawing cs))
   drawn_places Part k xs other two five = absurd (other refl)
   drawn_places (Joined way) k [] other two five = absurd (omega (arith, two way refl))
   drawn_places (Joined way) k (c ∷ cs) other two five = (c, cs, refl, refl)

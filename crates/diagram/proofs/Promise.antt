@@ -1,6 +1,6 @@
 -- The promise over all runs.
-use Rattle.std.proofs.Common.{◌≡◌, ℕ, ◌<◌, ◌≤◌, List, [], ◌∷◌, length, get_or, Result, Ok, Err, IsOkAnd, is_ok, sym, ◌∙◌, ap, refl, subst, inl, inr, arith}
-use Rattle.std.proofs.lemmas.Bool.{cases_lt, true≢false}
+use Rattle.std.proofs.Common.{◌≡◌, ℕ, ◌<◌, ◌≤◌, List, [], ◌∷◌, length, get_or, Result, Ok, Err, IsOkAnd, sym, ◌∙◌, ap, refl, subst, inl, inr, arith}
+use Rattle.std.proofs.lemmas.Bool.{cases_lt}
 use Rattle.std.proofs.lemmas.List.{get_or_default}
 use Rattle.kinds.specs.declared.performance.Performance
 use Rattle.kinds.specs.declared.weight.Weight
@@ -25,15 +25,13 @@ use Rattle.diagram.proofs.Collected.{none_or_some}
 use Rattle.diagram.proofs.CollectedSince.{collecting_in}
 use Rattle.diagram.proofs.HistoryFits.{blank_holds, same_places, holds_there}
 use Rattle.diagram.proofs.PartsBelow.{none_twice}
+use Rattle.diagram.proofs.PassedOn.{ok_not_err}
 use Rattle.diagram.proofs.Questions.{HoldsAfter}
 use Rattle.diagram.proofs.OneCall.{Known, After, idle_after, refused_idle, adding_right, joining_right, bridging_right, restating_right, collecting_right, asking_right}
 
 module _ {P W : Type 0} (kind : Performance.Ghosts P) (weights : Weight.Ghosts W) (laws : Kind kind) (weigh : Weighing weights) where
   abbrev Terms : Type 0
   Terms = List (Term P W)
-
-  ok_not_err : {A B : Type 0} {a : A} {e : B} → Ok a ≡ Err e → ⊥
-  ok_not_err e = true≢false (ap is_ok e)
 
   tells_term : (row stored : Terms) (n i : ℕ) (reply : Reply P W) (r : Result (Term P W) Refusal) → row ≡ stored → length row ≡ n → reply ≡ as_reply one_term r →
       Asked (i < n) (r ≡ Err NoTerm) (IsOkAnd r (λ x. get_or stored i x ≡ x)) → Tells kind weights row (term i) reply

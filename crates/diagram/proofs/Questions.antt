@@ -96,8 +96,8 @@ module _ {P W : Type 0} (kind : Performance.Ghosts P) (weights : Weight.Ghosts W
 
   pub current_question : (k : ℕ) → k < t.count → (status_at t k ≡ UpToDate) ↔ Answers h k
   current_question k b = (
-    (λ x. elim ((holds.current k b).0 x) [ inl p ↦ inl ((part_question k b).0 p) | inr c ↦ inr c ]),
-    (λ x. (holds.current k b).1 (elim x [ inl p ↦ inl ((part_question k b).1 p) | inr c ↦ inr c ])),
+    (λ x. elim ((holds.up_to_date k b).0 x) [ inl p ↦ inl ((part_question k b).0 p) | inr c ↦ inr c ]),
+    (λ x. (holds.up_to_date k b).1 (elim x [ inl p ↦ inl ((part_question k b).1 p) | inr c ↦ inr c ])),
   )
 
   -- a child of a node is a node
@@ -116,13 +116,13 @@ module _ {P W : Type 0} (kind : Performance.Ghosts P) (weights : Weight.Ghosts W
   module _ (laws : Kind kind) (weigh : Weighing weights) where
     -- the row of an answering node is the one that stands in the store
     pub row_is : (k : ℕ) → k < t.count → status_at t k ≡ UpToDate → (row : List (Term P W)) → RowOfNode kind weights h k row → row ≡ row_at t s k
-    row_is k b current row is_row = row_unique laws weigh _ row (row_at t s k) is_row (holds.rows k b current)
+    row_is k b up_to_date row is_row = row_unique laws weigh _ row (row_at t s k) is_row (holds.rows k b up_to_date)
 
     pub arms_question : (k : ℕ) → k < t.count → All (λ c. status_at t c ≡ UpToDate) (children_at t k) → ArmsFit t k ↔ ArmsShort kind weights h k
-    arms_question k b current = (
+    arms_question k b up_to_date = (
       (λ fit a₁ a₂ a₃ a₄ a₅ e. subst (All Short) (sym (children_same k b)) (λ i d l row is_row.
           let c = known i d l in
-          let up = current i d l in
+          let up = up_to_date i d l in
           omega (arith, ap length (row_is _ c up row is_row), holds.full _ c up, fit (making_is k (bridged_from a₁ a₂ a₃ a₄ a₅) b e).0 i d l))),
       (λ short form. by (holds.made_so k b).0 (holds.made_so k b).1 (holds.made_so k b).2 form short),
     )
@@ -136,7 +136,7 @@ module _ {P W : Type 0} (kind : Performance.Ghosts P) (weights : Weight.Ghosts W
         fits : All Short (children_at t k) → All (λ c. size_at t c ≤ ARM_TERMS) (children_at t k)
         fits a i d l =
             let c = known i d l in
-            let up = current i d l in
+            let up = up_to_date i d l in
             omega (arith, holds.full _ c up, a i d l (row_at t s _) (holds.rows _ c up))
 
         by : (m : Making P W) → making_of h k ≡ Some m → Matches m t k → form_at t k ≡ Bridge → ArmsShort kind weights h k → All (λ c. size_at t c ≤ ARM_TERMS) (children_at t k)

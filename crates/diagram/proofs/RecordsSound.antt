@@ -11,7 +11,7 @@ use Rattle.diagram.specs.declared.node.Status.TheVariants.{Stale, UpToDate}
 use Rattle.diagram.specs.declared.node.Node.{Node}
 use Rattle.diagram.specs.declared.table.Table.{Table}
 use Rattle.diagram.specs.Nodes.{Takes}
-use Rattle.diagram.specs.Records.{Fitting, Sound, SoundAt, node_at, form_at, status_at, size_at, Uses, Names, children_at, Beneath, child, deeper}
+use Rattle.diagram.specs.Records.{Fitting, Sound, SoundAt, node_at, form_at, status_at, size_at, Uses, Names, children_at, NodeBeneath, child, deeper}
 use Rattle.diagram.specs.Changes.{PartAdded, NodeJoined, PartRestated, NodeCollected}
 use Rattle.diagram.specs.Calls.{Free}
 use Rattle.diagram.proofs.FoundByTest.{test_finds, found_by_test}
@@ -25,9 +25,9 @@ is_stale UpToDate = false
 pub not_both : {x : Status} → x ≡ Stale → x ≡ UpToDate → ⊥
 not_both p q = true≢false (ap is_stale (sym p ∙ q))
 
-pub current_unless : (x : Status) → ¬ (x ≡ Stale) → x ≡ UpToDate
-current_unless Stale n = absurd (n refl)
-current_unless UpToDate n = refl
+pub up_to_date_unless : (x : Status) → ¬ (x ≡ Stale) → x ≡ UpToDate
+up_to_date_unless Stale n = absurd (n refl)
+up_to_date_unless UpToDate n = refl
 
 not_none : {u : ℕ} → None ≡ Some u → ⊥
 not_none e = false≢true (ap is_some e)
@@ -65,7 +65,7 @@ module _ {t t' : Table} (s : Sound t) where
       new : SoundAt t' t.count
       new = record {
         own = fitting_same (ap (λ n. n.form) c.record_made) (ap (λ n. n.status) c.record_made) (ap (λ n. n.size) c.record_made) c.childless
-            (record { sized = small; part_is_current = λ _. refl; part_is_alone = λ _. refl; joins_two_or_more = λ way e. absurd (true≢false (ap is_part e)); bridges_five = λ e. absurd (true≢false (ap is_part e)); children_below = λ k d h. absurd (omega (arith, h)); children_apart = λ i j d l h. absurd (omega (arith, h)) });
+            (record { sized = small; part_is_up_to_date = λ _. refl; part_is_alone = λ _. refl; joins_two_or_more = λ way e. absurd (true≢false (ap is_part e)); bridges_five = λ e. absurd (true≢false (ap is_part e)); children_below = λ k d h. absurd (omega (arith, h)); children_apart = λ i j d l h. absurd (omega (arith, h)) });
         children_used = λ v e. absurd (false≢true (names_same v c.childless e));
         user_above = λ u e. absurd (not_none (ap user_of (sym c.record_made) ∙ e));
         user_names = λ u e. absurd (not_none (ap user_of (sym c.record_made) ∙ e));
@@ -133,7 +133,7 @@ module _ {t t' : Table} (s : Sound t) where
         own = fitting_same (ap (λ n. n.form) c.record_made) (ap (λ n. n.status) c.record_made) (ap (λ n. n.size) c.record_made) c.names_them
             (record {
               sized = omega arith;
-              part_is_current = λ e. absurd (takes.1 e);
+              part_is_up_to_date = λ e. absurd (takes.1 e);
               part_is_alone = λ e. absurd (takes.1 e);
               joins_two_or_more = λ way e. (subst (λ f. Takes f (length named)) e takes.0).0;
               bridges_five = λ e. subst (λ f. Takes f (length named)) e takes.0;
@@ -157,7 +157,7 @@ module _ {t t' : Table} (s : Sound t) where
   }
     where
       -- a part is beneath nothing that is a part
-      no_part_above : (j : ℕ) → j < t.count → form_at t j ≡ Part → ¬ Beneath (children_at t) j k
+      no_part_above : (j : ℕ) → j < t.count → form_at t j ≡ Part → ¬ NodeBeneath (children_at t) j k
       no_part_above j h p (child i) = absurd (omega (arith, i.1, (s.at j h).own.part_is_alone p))
       no_part_above j h p (deeper i b) = absurd (omega (arith, i.1, (s.at j h).own.part_is_alone p))
 
@@ -171,10 +171,10 @@ module _ {t t' : Table} (s : Sound t) where
                 | inl e ↦ subst (λ z. size_at t' z ≤ TERMS) (sym e) (omega (arith, c.resized, small))
                 | inr n ↦ omega (arith, c.sizes j h n, o.own.sized)
               ];
-              part_is_current = λ p.
+              part_is_up_to_date = λ p.
                   let was = sym (c.forms j h) ∙ p in
-                  current_unless (status_at t' j) (λ x. elim ((c.stale j h).0 x) [
-                    | inl y ↦ not_both y (o.own.part_is_current was)
+                  up_to_date_unless (status_at t' j) (λ x. elim ((c.stale j h).0 x) [
+                    | inl y ↦ not_both y (o.own.part_is_up_to_date was)
                     | inr b ↦ no_part_above j h was b
                   ]);
               part_is_alone = λ p. ap length (c.children j h) ∙ o.own.part_is_alone (sym (c.forms j h) ∙ p);
@@ -228,9 +228,9 @@ module _ {t t' : Table} (s : Sound t) where
                 | inl e ↦ subst (λ z. size_at t' z ≤ TERMS) (sym e) (omega (arith, ap (λ n. n.size) c.collected, small))
                 | inr n ↦ omega (arith, ap (λ n. n.size) (c.others j h n), o.own.sized)
               ];
-              part_is_current = λ p. elim (cases_eq j k) [
+              part_is_up_to_date = λ p. elim (cases_eq j k) [
                 | inl e ↦ absurd (joined (subst (λ z. form_at t z ≡ Part) e (sym (form_kept j h) ∙ p)))
-                | inr n ↦ ap (λ n. n.status) (c.others j h n) ∙ o.own.part_is_current (sym (form_kept j h) ∙ p)
+                | inr n ↦ ap (λ n. n.status) (c.others j h n) ∙ o.own.part_is_up_to_date (sym (form_kept j h) ∙ p)
               ];
               part_is_alone = λ p. ap length (c.children j h) ∙ o.own.part_is_alone (sym (form_kept j h) ∙ p);
               joins_two_or_more = λ way p. subst (λ z. FEWEST_CHILDREN ≤ length z) (sym (c.children j h)) (o.own.joins_two_or_more way (sym (form_kept j h) ∙ p));

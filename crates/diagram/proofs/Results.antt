@@ -9,7 +9,7 @@ use Rattle.terms.specs.declared.term.Term.{Term}
 use Rattle.terms.specs.declared.term.Way.{Way}
 use Rattle.terms.specs.Rows.{weight_at, SameDistribution, RowOf}
 use Rattle.terms.specs.Combinations.{joins, combinations, bridges}
-use Rattle.terms.specs.Drawings.{Drawing, part, joined, bridge, Children, one, more, places, places_of, NoneTwice, NoPartTwice}
+use Rattle.terms.specs.Drawings.{Drawing, part, joined, bridge, Children, one, more, all_parts, all_parts_of, NoneTwice, NoPartTwice}
 use Rattle.terms.specs.Enumeration.{enumeration}
 use Rattle.terms.specs.Stepwise.{first_ones, RunningResult}
 use Rattle.terms.proofs.Canonical.{row_unique}
@@ -29,14 +29,14 @@ use Rattle.diagram.proofs.PartsOfChildren.{none_twice_all}
 
 -- children that others follow have no part twice where all have none
 pub first_once : (drawing : ℕ → Drawing) (ds : Children) (cs : List ℕ) →
-    NoneTwice (places_of (followed_by_all ds drawing cs)) → NoneTwice (places_of ds)
+    NoneTwice (all_parts_of (followed_by_all ds drawing cs)) → NoneTwice (all_parts_of ds)
 first_once drawing ds [] h = h
 first_once drawing ds (c ∷ cs) h =
-    (apart_followed (places_of ds) (places (drawing c)) (first_once drawing (more ds (drawing c)) cs h)).0
+    (apart_followed (all_parts_of ds) (all_parts (drawing c)) (first_once drawing (more ds (drawing c)) cs h)).0
 
 -- nor do children that are parts, and differ
 parts_once : (c : ℕ) (cs : List ℕ) → AllPairs ◌≢◌ (c ∷ cs) →
-    NoneTwice (places_of (followed_by_all (one (part c)) part cs))
+    NoneTwice (all_parts_of (followed_by_all (one (part c)) part cs))
 parts_once c cs differ =
     none_twice_all part c cs (λ d i. tt) differ (λ n d e i j b b'. sym (eqb-true n d b) ∙ eqb-true n e b')
 
@@ -82,7 +82,7 @@ module _ {P W : Type 0} {kind : Performance.Ghosts P} {weights : Weight.Ghosts W
 
     -- with one child more, the combinations of what is like the children before it and of what is
     -- like the child
-    pub more_same : (way : Way) (ds : Children) (d : Drawing) → NoneTwice (places_of (more ds d)) →
+    pub more_same : (way : Way) (ds : Children) (d : Drawing) → NoneTwice (all_parts_of (more ds d)) →
         (before next : Terms) → Same (of (joined way ds)) before → Same (of d) next →
         Same (of (joined way (more ds d))) (combinations weights (joins kind way) before next)
     more_same way ds d once before next e f p =
@@ -128,7 +128,7 @@ module _ {P W : Type 0} {kind : Performance.Ghosts P} {weights : Weight.Ghosts W
       SameChild c = SameOf (f c) (g c)
 
       alike_all : (way : Way) (cs : List ℕ) (ds es : Children) →
-          NoneTwice (places_of (followed_by_all ds f cs)) → NoneTwice (places_of (followed_by_all es g cs)) →
+          NoneTwice (all_parts_of (followed_by_all ds f cs)) → NoneTwice (all_parts_of (followed_by_all es g cs)) →
           All SameChild cs → Alike (joined way ds) (joined way es) →
           Alike (joined way (followed_by_all ds f cs)) (joined way (followed_by_all es g cs))
       alike_all way [] ds es once once' all alike = alike

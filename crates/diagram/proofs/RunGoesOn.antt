@@ -1,6 +1,5 @@
 -- A run of a diagram goes on, call by call: what its caller knows of each answer, from the promise over all runs.
-use Rattle.std.proofs.Common.{◌≡◌, ◌≢◌, ℕ, zero, suc, ◌<◌, ◌≤◌, true, false, cond, ◌==◌, List, [], ◌∷◌, length, All, AllPairs, Contains, Some, Result, Ok, Err, is_ok, sym, ◌∙◌, ap, refl, subst, inl, inr, arith}
-use Rattle.std.proofs.lemmas.Bool.{true≢false}
+use Rattle.std.proofs.Common.{◌≡◌, ◌≢◌, ℕ, zero, suc, ◌<◌, ◌≤◌, true, false, cond, ◌==◌, List, [], ◌∷◌, length, All, AllPairs, Contains, Some, Result, Ok, Err, sym, ◌∙◌, ap, refl, subst, inl, inr, arith}
 use Rattle.std.proofs.lemmas.List.Elements.{All-from_recursion}
 use Rattle.kinds.specs.declared.performance.Performance
 use Rattle.kinds.specs.declared.weight.Weight
@@ -22,16 +21,16 @@ use Rattle.diagram.specs.Shown.{records}
 use Rattle.diagram.specs.Nodes.{EnoughStates}
 use Rattle.diagram.specs.Store.{row_at}
 use Rattle.diagram.specs.Calls.{Refused, Added, Joins, Restated, Collected, TellsAvailability}
-use Rattle.diagram.specs.Histories.{Question, availability, Call, adding, joining, bridging, restating, collecting, asking, number, two_weights, Reply, Entry, History, Making, joined_from, named_by, made, making_of, drawing_of, states_of, children_of, IsPart, Unused, Answers}
+use Rattle.diagram.specs.Histories.{Question, availability, Call, adding, joining, bridging, restating, collecting, asking, number, two_weights, Reply, History, Making, joined_from, named_by, made, making_of, drawing_of, states_of, children_of, IsPart, Unused, Answers}
 use Rattle.diagram.specs.RightAnswers.{RightAnswer, RowOfNode, Tells, ArmsShort, ResultsShort}
 use Rattle.diagram.specs.Runs.{as_reply, Performs, Replies, Run, next, AnswersRight}
+pub use Rattle.diagram.proofs.Asking.{yes}
+pub use Rattle.diagram.proofs.OneCall.{entry}
+pub use Rattle.diagram.proofs.PassedOn.{ok_not_err, ok_same, err_same}
 use Rattle.diagram.proofs.Promise.{run_right}
 use Rattle.diagram.proofs.Questions.{current_question}
 
 -- questions whose answer is known
-
-pub yes : {q refused rest : Type 0} → q → rest → Asked q refused rest
-yes q r = inl (q, r)
 
 pub granted : {q refused rest : Type 0} → q → Asked q refused rest → rest
 granted q (inl x) = x.1
@@ -41,15 +40,6 @@ granted q (inr x) = absurd (x.0 q)
 pub either_way : {q refused refused' rest rest' : Type 0} → (refused → refused') → (rest → rest') → Asked q refused rest → Asked q refused' rest'
 either_way told on (inl x) = inl (x.0, on x.1)
 either_way told on (inr x) = inr (x.0, told x.1)
-
-pub ok_not_err : {A B : Type 0} {a : A} {e : B} → Ok a ≡ Err e → ⊥
-ok_not_err e = true≢false (ap is_ok e)
-
-pub ok_same : {A B : Type 0} {a b : A} → ◌≡◌ {A = Result A B} (Ok a) (Ok b) → a ≡ b
-ok_same {a = a} e = cc e
-
-pub err_same : {A B : Type 0} {e f : B} → ◌≡◌ {A = Result A B} (Err e) (Err f) → e ≡ f
-err_same {e = e} p = cc p
 
 -- something was answered, so the question has the answer yes
 pub given : {A B q rest : Type 0} {a : A} {e : B} → Asked q (Ok a ≡ Err e) rest → q × rest
@@ -90,9 +80,6 @@ neither n m (suc zero, l, e) = m e
 neither n m (suc (suc k), l, e) = omega (arith, l)
 
 module _ {P W : Type 0} where
-  abbrev pub entry : Call P W → ℕ → Reply P W → Entry P W
-  entry call lent reply = record { call = call; lent = lent; reply = reply }
-
   -- what a reply tells was answered
 
   number_told : (r : Result ℕ Refusal) (n : ℕ) → ◌≡◌ {A = Reply P W} (as_reply number r) (Ok (number n)) → r ≡ Ok n

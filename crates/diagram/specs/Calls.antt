@@ -24,8 +24,8 @@ abbrev pub Free : Table → ℕ → Type 0
 Free t k = (u : ℕ) → ¬ Uses t k u
 
 -- the children of k are up to date
-abbrev pub ChildrenCurrent : Table → ℕ → Type 0
-ChildrenCurrent t k = All (λ c. status_at t c ≡ UpToDate) (children_at t k)
+abbrev pub ChildrenUpToDate : Table → ℕ → Type 0
+ChildrenUpToDate t k = All (λ c. status_at t c ≡ UpToDate) (children_at t k)
 
 -- if k is a bridge, the row of each arm is short enough
 abbrev pub ArmsFit : Table → ℕ → Type 0
@@ -92,8 +92,7 @@ module _ {P W : Type 0} (kind : Performance.Ghosts P) (weights : Weight.Ghosts W
         Asked Roomy (Refused t s r t' s' ShortStore)
         (Asked (k < t.count) (Refused t s r t' s' NoNode)
         (Asked (form_at t k ≢ Part) (Refused t s r t' s' NotJoined)
-        (Asked (All (λ c. status_at t c ≡ UpToDate) (children_at t k))
-        (Refused t s r t' s' StaleChild)
+        (Asked (ChildrenUpToDate t k) (Refused t s r t' s' StaleChild)
         (Asked (ArmsFit t k) (Refused t s r t' s' LongArm)
         (Asked (ResultsFit kind weights (row_at t s) (joining_of t k)) (TooLong t s r t' s')
         ((row : Terms) × RowOfDrawing kind weights (row_at t s) (joining_of t k) row

@@ -1,4 +1,4 @@
--- Collecting every joined node of a diagram, by rising number.
+-- Collecting nodes one after the other: two, or every joined node by rising number.
 use Rattle.std.specs.Prelude.{◌≡◌, ◌≢◌, ℕ, ◌+◌, ◌<◌, ◌≤◌, ◌⊎◌, List, length, Result, Ok, Err}
 use Rattle.kinds.specs.declared.performance.Performance
 use Rattle.kinds.specs.declared.weight.Weight
@@ -11,6 +11,7 @@ use Rattle.diagram.specs.declared.node.Status.TheVariants.{UpToDate}
 use Rattle.diagram.specs.declared.refusal.Refusal.{Refusal}
 use Rattle.diagram.specs.declared.refusal.Refusal.TheVariants.{ShortStore, LongArm, LongResult}
 use Rattle.diagram.specs.declared.refusal.RefusedAt.{RefusedAt}
+use Rattle.diagram.specs.declared.table.Table.{Table}
 use Rattle.diagram.specs.Refusals.{Asked}
 use Rattle.diagram.specs.Calls.{Collected}
 use Rattle.diagram.specs.Histories.{History, made, making_of, drawing_of, states_of, IsPart, Answers}
@@ -23,6 +24,21 @@ use Rattle.diagram.specs.Standing.{RowsStand}
 module _ {P W : Type 0} (kind : Performance.Ghosts P) (weights : Weight.Ghosts W) where
   abbrev Terms : Type 0
   Terms = List (Term P W)
+
+  -- two nodes are collected, one after the other
+  abbrev pub BothCollected : Table → Terms → ℕ → ℕ → Table → Terms → Type 0
+  BothCollected t s first second t' s' =
+      (between : Diagram P W) × (left : Terms) × (m : ℕ) × (n : ℕ)
+      × Collected kind weights t s first (Ok m) (records between) left
+      × Collected kind weights (records between) left second (Ok n) t' s'
+
+  -- the first of two nodes is refused, or the second once the first is collected
+  abbrev pub OneRefused : Table → Terms → ℕ → ℕ → Refusal → Table → Terms → Type 0
+  OneRefused t s first second why t' s' =
+      Collected kind weights t s first (Err why) t' s'
+      ⊎ ((between : Diagram P W) × (left : Terms) × (m : ℕ)
+      × Collected kind weights t s first (Ok m) (records between) left
+      × Collected kind weights (records between) left second (Err why) t' s')
 
   module _ (d : Diagram P W) (s : Terms) where
     -- the joined ones of the first n nodes are collected in turn, which leaves this diagram and this store
@@ -59,15 +75,15 @@ module _ {P W : Type 0} (kind : Performance.Ghosts P) (weights : Weight.Ghosts W
     Short k = ArmsShort kind weights h k × ResultsShort kind weights h k
 
     -- the first no that the collecting of node k is told
-    abbrev pub TooLong : ℕ → Refusal → Type 0
-    TooLong k why =
+    abbrev pub NotShort : ℕ → Refusal → Type 0
+    NotShort k why =
         ((¬ ArmsShort kind weights h k) × (why ≡ LongArm))
         ⊎ (ArmsShort kind weights h k × (¬ ResultsShort kind weights h k) × (why ≡ LongResult))
 
     -- every joined node is collected, by rising number: the first that is too long is refused
     abbrev pub AllCollected : (ℕ → Refusal → Type 0) → Type 0 → Type 0
     AllCollected refused rest =
-        ((k : ℕ) × (why : Refusal) × (k < made h) × ((j : ℕ) → j < k → Short j) × TooLong k why × refused k why)
+        ((k : ℕ) × (why : Refusal) × (k < made h) × ((j : ℕ) → j < k → Short j) × NotShort k why × refused k why)
         ⊎ (((k : ℕ) → k < made h → Short k) × rest)
 
     -- the parts, and the joined nodes below n, have the rows of their enumerations; nothing has changed but their places

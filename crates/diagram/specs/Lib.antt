@@ -6,7 +6,7 @@ pub mod Writing
 pub mod Store
 pub mod Standing
 pub mod Results
-pub mod Working
+pub mod WorkingOut
 pub mod Histories
 pub mod RightAnswers
 pub mod Calls

@@ -39,8 +39,8 @@ module _ {P W : Type 0} where
 
 module _ {P W : Type 0} (kind : Performance.Ghosts P) (weights : Weight.Ghosts W) where
   -- the node is made as by its call
-  abbrev pub Makes : Given P W → Diagram P W → List (Term P W) → Result ℕ Refusal → Diagram P W → List (Term P W) → Type 0
-  Makes given d s r d' s' = Performs kind weights (call_of (meaning given)) (records d) s (as_reply number r) (records d') s'
+  abbrev pub MadeAs : Given P W → Diagram P W → List (Term P W) → Result ℕ Refusal → Diagram P W → List (Term P W) → Type 0
+  MadeAs given d s r d' s' = Performs kind weights (call_of (meaning given)) (records d) s (as_reply number r) (records d') s'
 
   -- the diagram takes node m after these
   abbrev pub TakesNext : List (Making P W) → Making P W → Type 0

@@ -9,10 +9,14 @@ use Rattle.diagram.specs.declared.node.Event.{Event}
 use Rattle.diagram.specs.declared.node.Event.TheVariants.{Restated, Collected}
 use Rattle.diagram.specs.declared.node.Node.{Node}
 
+-- a number of children that may be joined in series or in parallel
+abbrev pub EnoughChildren : ℕ → Type 0
+EnoughChildren n = (FEWEST_CHILDREN ≤ n) × (n ≤ CHILDREN)
+
 -- how many children a form takes
 abbrev pub Takes : Form → ℕ → Type 0
 Takes Part n = n ≡ 0
-Takes (Joined way) n = (FEWEST_CHILDREN ≤ n) × (n ≤ CHILDREN)
+Takes (Joined way) n = EnoughChildren n
 Takes Bridge n = n ≡ ARMS
 
 -- a number of states that a part may have

@@ -39,14 +39,14 @@ abbrev pub Names : Table → ℕ → ℕ → Type 0
 Names t u k = IsTrue (list_any (λ c. k == c) (children_at t u))
 
 -- beneath a node are its children, and all that is beneath those
-pub data Beneath (children : ℕ → List ℕ) : ℕ → ℕ → Type 0 where
-  child : {k p : ℕ} → Contains (children k) p → Beneath children k p
-  deeper : {k c p : ℕ} → Contains (children k) c → Beneath children c p → Beneath children k p
+pub data NodeBeneath (children : ℕ → List ℕ) : ℕ → ℕ → Type 0 where
+  child : {k p : ℕ} → Contains (children k) p → NodeBeneath children k p
+  deeper : {k c p : ℕ} → Contains (children k) c → NodeBeneath children c p → NodeBeneath children k p
 
 -- what the record of node k tells of itself alone
 pub record Fitting (form : Form) (status : Status) (size : ℕ) (children : List ℕ) (k : ℕ) : Type 0 where
   pub sized : size ≤ TERMS
-  pub part_is_current : form ≡ Part → status ≡ UpToDate
+  pub part_is_up_to_date : form ≡ Part → status ≡ UpToDate
   pub part_is_alone : form ≡ Part → length children ≡ 0
   pub joins_two_or_more : (way : Way) → form ≡ Joined way → FEWEST_CHILDREN ≤ length children
   pub bridges_five : form ≡ Bridge → length children ≡ ARMS

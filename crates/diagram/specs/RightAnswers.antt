@@ -5,10 +5,10 @@ use Rattle.kinds.specs.declared.weight.Weight
 use Rattle.terms.specs.declared.term.Term.{Term}
 use Rattle.terms.specs.Rows.{RowOf}
 use Rattle.terms.specs.Sums.{total_of, met_of}
-use Rattle.diagram.specs.declared.limits.TheConstants.{NODES, FEWEST_CHILDREN, CHILDREN, TERMS, ARM_TERMS, STORE}
+use Rattle.diagram.specs.declared.limits.TheConstants.{NODES, ARM_TERMS, STORE}
 use Rattle.diagram.specs.declared.refusal.Refusal.TheVariants.{ShortStore, NoNumberLeft, WrongStates, WrongChildren, NoNode, InUse, Repeated, NotPart, NotJoined, StaleChild, LongArm, LongResult, Stale, NoTerm}
 use Rattle.diagram.specs.Refusals.{Asked}
-use Rattle.diagram.specs.Nodes.{EnoughStates}
+use Rattle.diagram.specs.Nodes.{EnoughChildren, EnoughStates}
 use Rattle.diagram.specs.Results.{RowOfDrawing, ResultsFit}
 use Rattle.diagram.specs.Histories.{Question, size, term, total, availability, Call, adding, joining, bridging, restating, collecting, asking, number, one_term, one_weight, two_weights, Reply, Entry, History, bridged_from, made, making_of, drawing_of, states_of, children_of, IsPart, Unused, Answers}
 
@@ -56,7 +56,7 @@ module _ {P W : Type 0} (kind : Performance.Ghosts P) (weights : Weight.Ghosts W
           (r ≡ Ok (number (made h))))
       RightAnswer (joining way children) =
           Asked (made h < NODES) (r ≡ Err NoNumberLeft)
-          (Asked ((FEWEST_CHILDREN ≤ length children) × (length children ≤ CHILDREN)) (r ≡ Err WrongChildren)
+          (Asked (EnoughChildren (length children)) (r ≡ Err WrongChildren)
           (naming children))
       RightAnswer (bridging a b c d e) =
           Asked (made h < NODES) (r ≡ Err NoNumberLeft) (naming (a ∷ b ∷ c ∷ d ∷ e ∷ []))

@@ -1,9 +1,10 @@
 -- Cited by private functions only: what is written to the table, at one node or by a loop.
-use Rattle.std.specs.Prelude.{◌≡◌, ◌⊎◌, ◌↔◌, ℕ, ◌<◌, List, length, slice_set, Some, if◌then◌else◌, ◌==◌}
+use Rattle.std.specs.Prelude.{◌≡◌, ℕ, List, length, slice_set, Some, if◌then◌else◌, ◌==◌}
 use Rattle.std.specs.List.{list_any}
 use Rattle.diagram.specs.declared.node.Status.TheVariants.{Stale, UpToDate}
 use Rattle.diagram.specs.declared.table.Table.{Table}
-use Rattle.diagram.specs.Records.{node_at, status_at, children_at, Beneath}
+use Rattle.diagram.specs.Changes.{StaleAbove}
+use Rattle.diagram.specs.Records.{node_at}
 
 -- node k is marked stale
 abbrev pub with_stale : Table → ℕ → Table
@@ -27,8 +28,8 @@ pub record UserSet (t t' : Table) (named : List ℕ) (u : ℕ) : Type 0 where
   pub nodes : (j : ℕ) →
       node_at t' j ≡ (if list_any (λ c. j == c) named then record (node_at t j) { user = Some u } else node_at t j)
 
--- stale is what was so before, and what k is beneath
+-- all above k is marked stale
 pub record MarkedAbove (t t' : Table) (k : ℕ) : Type 0 where
   pub rest : NodesOnly t t'
-  pub stale : (j : ℕ) → j < t.count → (status_at t' j ≡ Stale) ↔ ((status_at t j ≡ Stale) ⊎ Beneath (children_at t) j k)
+  pub stale : StaleAbove t t' k
   pub others : (j : ℕ) → record (node_at t' j) { status = Stale } ≡ record (node_at t j) { status = Stale }

@@ -7,7 +7,5 @@ pub mod making;
 pub mod node;
 pub mod refusal;
 pub mod table;
-#[cfg(test)]
-mod tests;
 pub mod theorems;
 pub mod work;

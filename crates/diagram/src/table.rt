@@ -5,7 +5,7 @@ ghost use Rattle.diagram.specs.declared.node.Status.TheVariants.{UpToDate};
 ghost use Rattle.diagram.specs.Records.{Sound, node_at, form_at, status_at, size_at, children_at};
 ghost use Rattle.diagram.specs.Changes.{PartAdded, NodeJoined, PartRestated, NodeCollected};
 ghost use Rattle.diagram.specs.Nodes.{Takes};
-ghost use Rattle.diagram.specs.Calls.{Free, ChildrenCurrent, ArmsFit};
+ghost use Rattle.diagram.specs.Calls.{Free, ChildrenUpToDate, ArmsFit};
 ghost use Rattle.diagram.specs.Writing.{UserSet, MarkedAbove, with_stale, with_collected};
 
 use crate::limits::{ARM_TERMS, CHILDREN, NODES, TERMS};
@@ -56,7 +56,7 @@ impl Table {
         self.nodes[k].user.is_none()
     }
 
-    pub(crate) fn is_current(&self, k: usize) -> bool
+    pub(crate) fn is_up_to_date(&self, k: usize) -> bool
         requires { k < NODES }
         ensures { IsTrue result ↔ (status_at self.now k ≡ UpToDate) }
     {
@@ -77,13 +77,13 @@ impl Table {
     }
 
     // Are the children of k up to date?
-    pub(crate) fn children_are_current(&self, k: usize) -> bool
+    pub(crate) fn children_are_up_to_date(&self, k: usize) -> bool
         requires sound { Sound self.now }
         requires node { k < self.now.count }
-        ensures { IsTrue result ↔ ChildrenCurrent self.now k }
+        ensures { IsTrue result ↔ ChildrenUpToDate self.now k }
     {
         for c in self.children_of(k) {
-            if !self.is_current(*c) {
+            if !self.is_up_to_date(*c) {
                 return false;
             }
         }
@@ -198,7 +198,7 @@ impl Table {
         requires sound { Sound self.now }
         requires node { k < self.now.count }
         requires joined { form_at self.now k ≢ Part }
-        requires current { ChildrenCurrent self.now k }
+        requires up_to_date { ChildrenUpToDate self.now k }
         requires fits { size ≤ TERMS }
         ensures collected { NodeCollected self.old self.new k size }
         ensures sound { Sound self.new }

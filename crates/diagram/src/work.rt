@@ -3,7 +3,7 @@ ghost use Rattle.std.specs.Prelude.{◌≡◌, ◌≢◌, ℕ, ◌<◌, ◌≤�
 ghost use Rattle.diagram.specs.declared.node.Form.TheVariants.{Part, Joined};
 ghost use Rattle.diagram.specs.Records.{Sound, form_at};
 ghost use Rattle.diagram.specs.Store.{places_of, StandsAt, row_at, only};
-ghost use Rattle.diagram.specs.Working.{RowMade, InStore, NodeFound, NodeWorkedOut};
+ghost use Rattle.diagram.specs.WorkingOut.{RowMade, InStore, NodeFound, NodeWorkedOut};
 
 use crate::limits::{NODES, ROWS, STORE, TERMS};
 use crate::node::Form;
@@ -62,8 +62,8 @@ fn copy_row<P: Performance, W: Weight>(rows: &mut [Term<P, W>], k: usize, row: &
     rows[TERMS * k..TERMS * k + row.len()].copy_from_slice(row);
 }
 
-// The row of node k, which then stands in `room`. None where a running result has more than 64
-// terms.
+// The row of node k, which then stands in `room`. None where a running result has more than
+// `TERMS` terms.
 fn last_result<P: Performance, W: Weight>(
     table: &Table,
     rows: &[Term<P, W>],

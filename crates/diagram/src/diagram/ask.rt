@@ -63,6 +63,6 @@ impl<P: Performance, W: Weight> Diagram<P, W> {
     {
         Refusal::ShortStore.unless(store.len() >= STORE)?;
         Refusal::NoNode.unless(k < self.table.count)?;
-        Refusal::Stale.unless(self.table.is_current(k))
+        Refusal::Stale.unless(self.table.is_up_to_date(k))
     }
 }

@@ -3,7 +3,7 @@ ghost use Rattle.std.specs.Prelude.{◌≢◌, ◌↔◌, IsTrue};
 ghost use Rattle.diagram.specs.declared.node.Form.TheVariants.{Part, Joined, Bridge};
 ghost use Rattle.diagram.specs.Shown.{records};
 ghost use Rattle.diagram.specs.Calls.{Added, Joins, Restated};
-ghost use Rattle.diagram.specs.Makings.{Makes};
+ghost use Rattle.diagram.specs.Makings.{MadeAs};
 ghost use Rattle.diagram.specs.Nodes.{EnoughStates};
 
 use super::Diagram;
@@ -69,7 +69,7 @@ impl<P: Performance, W: Weight> Diagram<P, W> {
     ///
     /// Refused as in `add`, `join` or `join_bridge`.
     pub fn make(&mut self, store: &mut [Term<P, W>], making: Making<P, W>) -> Result<usize, Refusal>
-        ensures { Makes P.Performance W.Weight making.entry self.old store.old
+        ensures { MadeAs P.Performance W.Weight making.entry self.old store.old
             result self.new store.new }
     {
         match making {

@@ -24,7 +24,7 @@ impl<P: Performance, W: Weight> Diagram<P, W> {
         Refusal::ShortStore.unless(store.len() >= STORE)?;
         Refusal::NoNode.unless(k < self.table.count)?;
         Refusal::NotJoined.unless(self.table.nodes[k].form.is_joined())?;
-        Refusal::StaleChild.unless(self.table.children_are_current(k))?;
+        Refusal::StaleChild.unless(self.table.children_are_up_to_date(k))?;
         Refusal::LongArm.unless(self.table.arms_fit(k))?;
         let size = work_out(&self.table, store, k).ok_or(Refusal::LongResult)?;
         self.table.collect(k, size);
@@ -49,9 +49,8 @@ impl<P: Performance, W: Weight> Diagram<P, W> {
         }
         for k in 0..self.table.count {
             if self.table.nodes[k].form.is_joined() {
-                if let Err(refusal) = self.collect(store, k) {
-                    return Err(RefusedAt { node: k, refusal });
-                }
+                self.collect(store, k)
+                    .map_err(|refusal| RefusedAt { node: k, refusal })?;
             }
         }
         Ok(())

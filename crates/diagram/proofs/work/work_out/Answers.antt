@@ -2,7 +2,7 @@ use Rattle.std.proofs.Common.{drop, sym, ap, ◌∙◌, arith}
 use Rattle.std.proofs.lemmas.List.{length-take, length-take-le}
 use Rattle.kinds.proofs.Lawful.{lawful_kind, lawful_weight}
 use Rattle.diagram.specs.declared.limits.TheConstants.{TERMS}
-use Rattle.diagram.proofs.Working.{over, put}
+use Rattle.diagram.proofs.WorkingOut.{over, put}
 use Rattle.diagram.proofs.work.work_out.Goals as goal
 
 pub returns-in_err-len : goal.returns-in_err-len

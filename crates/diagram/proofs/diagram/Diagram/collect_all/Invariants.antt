@@ -3,4 +3,4 @@ use Rattle.diagram.specs.InTurn.{CollectedTo}
 use Rattle.diagram.proofs.diagram.Diagram.collect_all.Given as goal
 
 abbrev pub invariant-loop-k : goal.invariant-loop-k
-invariant-loop-k g l = CollectedTo g.P.Performance g.W.Weight l.fn.self l.fn.store l.k l.self l.store
+invariant-loop-k g l = CollectedTo g.P.Performance g.W.Weight l.fn.self l.fn.store l.k-counter l.self l.store

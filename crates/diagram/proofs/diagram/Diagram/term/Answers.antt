@@ -1,11 +1,11 @@
 use Rattle.std.proofs.Common.{get_or, refl, sym, ap, ◌∙◌, arith}
-use Rattle.diagram.proofs.Asking.{yes, no, below, not_below, err_is, answered, goes_on, passed_on}
+use Rattle.diagram.proofs.Asking.{yes, no, below, not_below, err_is, answered, goes_on, handed_on}
 use Rattle.diagram.proofs.StoreWrites.{row_as_long}
 use Rattle.diagram.proofs.Children.{in_store}
 use Rattle.diagram.proofs.diagram.Diagram.term.Goals as goal
 
 pub returns-in_err-answers : goal.returns-in_err-answers
-returns-in_err-answers g c = passed_on c.answers.ensures c.in_err-answers.was (err_is c.from_residual.ensures.1 refl)
+returns-in_err-answers g c = handed_on c.answers.ensures c.in_err-answers.was (err_is c.from_residual.ensures.1 refl)
 
 pub row_of-row-requires-clause-node : goal.row_of-row-requires-clause-node
 row_of-row-requires-clause-node g c = in_store c.args.self.now.table c.args.self.now.sound c.args.k (answered c.answers.ensures c.in_ok-answers.was).1

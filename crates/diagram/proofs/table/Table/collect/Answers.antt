@@ -11,4 +11,4 @@ pub returns-clause-collected : goal.returns-clause-collected
 returns-clause-collected = written
 
 pub returns-clause-sound : goal.returns-clause-sound
-returns-clause-sound c = collected_keeps c.requires.sound c.requires.node c.requires.joined c.requires.current c.requires.fits (written c) (rw c.put_collected.ensures c.requires.sound.short)
+returns-clause-sound c = collected_keeps c.requires.sound c.requires.node c.requires.joined c.requires.up_to_date c.requires.fits (written c) (rw c.put_collected.ensures c.requires.sound.short)

@@ -16,7 +16,7 @@ use Rattle.diagram.specs.declared.table.Table.{Table}
 use Rattle.diagram.specs.Records.{Sound, form_at, children_at}
 use Rattle.diagram.specs.Store.{places_of, StandsAt, row_at, no_node, only}
 use Rattle.diagram.specs.Results.{joining_of}
-use Rattle.diagram.specs.Working.{InStore, RowFound, NodeWorkedOut}
+use Rattle.diagram.specs.WorkingOut.{InStore, RowFound, NodeWorkedOut}
 use Rattle.diagram.proofs.Children.{children_in_store}
 use Rattle.diagram.proofs.Results.{SameResults, joining_once, joining_same}
 use Rattle.diagram.proofs.StoreWrites.{front, same_row, kept}
