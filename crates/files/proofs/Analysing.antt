@@ -1,5 +1,5 @@
 -- From reading, collecting and reporting to the whole analysis.
-use Rattle.std.proofs.Common.{◌≡◌, ℕ, ◌-◌, ◌<◌, ◌≤◌, List, length, Result, Ok, Err, MatchResult, IsErrAnd, sym, ◌∙◌, ap, refl, subst, inl, inr, arith}
+use Rattle.std.proofs.Common.{◌≡◌, ℕ, ◌-◌, ◌<◌, ◌≤◌, List, length, Result, Ok, Err, sym, ◌∙◌, ap, refl, subst, inl, inr, arith}
 use Rattle.kinds.specs.declared.performance.Performance
 use Rattle.kinds.specs.declared.weight.Weight
 use Rattle.terms.specs.declared.term.Term.{Term}
@@ -14,7 +14,7 @@ use Rattle.diagram.specs.Makings.{history_of, drawn}
 use Rattle.diagram.specs.Refusals.{Asked}
 use Rattle.diagram.specs.RightAnswers.{RowOfNode}
 use Rattle.diagram.proofs.Makings.{many_made, collected_drawn}
-use Rattle.diagram.proofs.RunGoesOn.{ok_not_err, ok_same, err_same}
+use Rattle.diagram.proofs.RunGoesOn.{ok_not_err, err_same}
 use Rattle.diagram.proofs.Standing.{kept_on, kept_more}
 use Rattle.files.specs.declared.words.FilePerformance
 use Rattle.files.specs.declared.words.FileWeight
@@ -24,27 +24,10 @@ use Rattle.files.specs.declared.model_file.ModelFile.{ModelFile}
 use Rattle.files.specs.Contents.{Contents}
 use Rattle.files.specs.Reading.{ContentsRead, ReadsBack, ReadsOneWay, ValidContents}
 use Rattle.files.specs.ModelFiles.{HoldsContents, ReadInto}
-use Rattle.files.specs.Left.{LeftByReading, LeftByAnalysing}
+use Rattle.files.specs.StoreLeft.{LeftByReading, LeftByAnalysing}
 use Rattle.files.specs.Analyses.{AnalysedOver}
 use Rattle.files.specs.Reports.{Unreported}
 use Rattle.files.specs.Analysing.{NodeReported}
-
--- an answer is passed on, each of its errors turned into another
-module _ {A E F : Type 0} where
-  pub passed : {r : Result A E} {q : Result A F} {a : A} (Turned : E → F → Type 0) → MatchResult r (λ a. q ≡ Ok a) (λ e. IsErrAnd q (Turned e)) → q ≡ Ok a → r ≡ Ok a
-  passed {r = Ok b} Turned x e = ap Ok (ok_same (sym x ∙ e))
-  passed {r = Err b} {q = Ok c} Turned x e = absurd x
-  passed {r = Err b} {q = Err f} Turned x e = absurd (ok_not_err (sym e))
-
-  pub turned : {r : Result A E} {q : Result A F} {f : F} (Turned : E → F → Type 0) → MatchResult r (λ a. q ≡ Ok a) (λ e. IsErrAnd q (Turned e)) → q ≡ Err f → (e : E) × (r ≡ Err e) × Turned e f
-  turned {r = Ok b} Turned x e = absurd (ok_not_err (sym x ∙ e))
-  turned {r = Err b} {q = Ok c} Turned x e = absurd x
-  turned {r = Err b} {q = Err g} Turned x e = (b, refl, subst (Turned b) (err_same e) x)
-
--- the fault that is passed on
-pub passed_on : {A : Type 0} {r : Result A Fault} {why : Fault} → IsErrAnd r (λ e. e ≡ why) → r ≡ Err why
-passed_on {r = Ok a} e = absurd e
-passed_on {r = Err f} e = ap Err e
 
 module _ {P W : Type 0} {kind : Performance.Ghosts P} {weights : Weight.Ghosts W} where
   -- the rows that the parts left are still there once joined nodes are collected

@@ -1,5 +1,5 @@
 -- What a report says of true counts, where weights count up to a top.
-use Rattle.std.proofs.Common.{◌≡◌, ℕ, ◌-◌, ◌<◌, List, [], ◌∷◌, ◌++◌, length, take, drop, flat_map, map, Result, Ok, Err, sym, ◌∙◌, ap, subst, inl, inr, arith}
+use Rattle.std.proofs.Common.{◌≡◌, ℕ, ◌-◌, ◌<◌, List, [], ◌∷◌, ◌++◌, length, take, drop, flat_map, map, Result, Ok, Err, sym, ◌∙◌, ap, subst, inl, inr}
 use Rattle.std.proofs.lemmas.List.Folds.{flat_map-map}
 use Rattle.std.proofs.Math.Seq.{take-append_seam}
 use Rattle.kinds.specs.Capped.{capped}
@@ -22,9 +22,9 @@ use Rattle.files.specs.Contents.{Contents}
 use Rattle.files.specs.Counted.{stopped, unstopped, ReportCounts, TrueCounts, AnalysedCounts}
 use Rattle.diagram.specs.Makings.{drawn}
 use Rattle.files.specs.Reports.{need_line, term_line, report_of}
-use Rattle.files.specs.Listed.{ModelCounts, ReportsCountTruly}
+use Rattle.files.specs.ByModel.{ModelCounts, ReportsCountTruly}
 use Rattle.files.specs.Models.{each_model}
-use Rattle.files.proofs.Listed.{one_more, last}
+use Rattle.files.proofs.ByModel.{one_more, last}
 use Rattle.diagram.proofs.RunGoesOn.{ok_not_err}
 
 -- the lines of terms, and the same where their weights change first

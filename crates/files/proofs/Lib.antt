@@ -1,10 +1,10 @@
 pub mod Analysing
 pub mod Bytes
 pub mod Counted
-pub mod Known
+pub mod KnownContents
 pub mod Lines
-pub mod Listed
-pub mod Many
+pub mod ByModel
+pub mod ValuesAhead
 pub mod ManyNodes
 pub mod ModelFiles
 pub mod OneNode

@@ -24,7 +24,7 @@ use Rattle.files.specs.Contents.{Contents, node_bytes, nodes_bytes}
 use Rattle.diagram.specs.declared.making.Making.{Making as Given}
 use Rattle.diagram.specs.Makings.{meaning, call_of, history_of, drawn, TakesAll, TakesNext}
 use Rattle.diagram.specs.InTurn.{RowsLeft}
-use Rattle.files.specs.Left.{nodes_before}
+use Rattle.files.specs.StoreLeft.{nodes_before}
 use Rattle.files.specs.Reading.{RecordsRead}
 use Rattle.files.specs.Analysing.{MakingRead, NodesDrawn}
 use Rattle.diagram.proofs.RunGoesOn.{given, ok_not_err, err_same, answered}
@@ -86,10 +86,10 @@ module _ {P W : Type 0} (kind : Performance.Ghosts P) (weights : Weight.Ghosts W
   refused_same (bridged_from _ _ _ _ _) d d' why x = x.2
 
   module _ (file_kind : FilePerformance.Ghosts P) (file_weights : FileWeight.Ghosts W) where
-    abbrev Answers : Type 0
-    Answers = Result (Contents P W) Fault
+    abbrev FileAnswer : Type 0
+    FileAnswer = Result (Contents P W) Fault
 
-    abbrev RestRead : ℕ → List (Making P W) → List ℕ → Answers → Type 0
+    abbrev RestRead : ℕ → List (Making P W) → List ℕ → FileAnswer → Type 0
     RestRead n ms bytes answer = RecordsRead kind weights file_kind file_weights n ms bytes answer
 
     -- after k records: the nodes so far, what they have changed in the store, and what is left tells the rest of the answer
@@ -100,7 +100,7 @@ module _ {P W : Type 0} (kind : Performance.Ghosts P) (weights : Weight.Ghosts W
       pub run : Run kind weights (history_of (length before) nodes) d s
       pub written : bytes ≡ nodes_bytes file_kind file_weights nodes ++ rest
       pub kept : Kept (IsPartOf nodes) before s
-      pub rest_tells : (answer : Answers) → RestRead (n - k) nodes rest answer → RestRead n [] bytes answer
+      pub rest_tells : (answer : FileAnswer) → RestRead (n - k) nodes rest answer → RestRead n [] bytes answer
 
     module _ (before : Terms) (n : ℕ) (bytes : List ℕ) where
       pub none_yet : {d : Diagram P W} → Made records before (Ok d) → SoFar before n bytes 0 bytes d before
@@ -133,7 +133,7 @@ module _ {P W : Type 0} (kind : Performance.Ghosts P) (weights : Weight.Ghosts W
           abbrev so_far : History P W
           so_far = history_of (length before) far.nodes
 
-          tells : (answer : Answers) → RestRead (suc (n - (k + 1))) far.nodes rest answer → RestRead n [] bytes answer
+          tells : (answer : FileAnswer) → RestRead (suc (n - (k + 1))) far.nodes rest answer → RestRead n [] bytes answer
           tells answer x = far.rest_tells answer (subst (λ j. RestRead j far.nodes rest answer) (sym one_more) x)
 
           -- the call that makes the node is right, after the nodes so far
@@ -157,7 +157,7 @@ module _ {P W : Type 0} (kind : Performance.Ghosts P) (weights : Weight.Ghosts W
             where
               on : (m : Making P W) (left : List ℕ) (a : Answer P W) → rest ≡ node_bytes file_kind file_weights m ++ left → shown x ≡ left →
                   Performs kind weights (call_of m) (records d) s (Ok a) (records d') s' →
-                  ((answer : Answers) → TakesNext kind weights far.nodes m → RestRead (n - (k + 1)) (m ∷ far.nodes) left answer → RestRead (suc (n - (k + 1))) far.nodes rest answer) →
+                  ((answer : FileAnswer) → TakesNext kind weights far.nodes m → RestRead (n - (k + 1)) (m ∷ far.nodes) left answer → RestRead (suc (n - (k + 1))) far.nodes rest answer) →
                   SoFar before n bytes (k + 1) (shown x) d' s'
               on m left a e same taken more =
                   let went = called m (Ok a) taken in
@@ -187,7 +187,7 @@ module _ {P W : Type 0} (kind : Performance.Ghosts P) (weights : Weight.Ghosts W
           abbrev Stops : Fault → Type 0
           Stops why = RestRead (suc (n - (k + 1))) far.nodes rest (Err why) × (nodes_before n why ≡ k) × (s' ≡ s)
 
-          placed : {A : Type 0} {why : Fault} (f : ℕ → Fault) → ◌≡◌ {A = Result A Fault} (Err why) (Err (f k)) → ◌≡◌ {A = Answers} (Err why) (Err (f (length far.nodes)))
+          placed : {A : Type 0} {why : Fault} (f : ℕ → Fault) → ◌≡◌ {A = Result A Fault} (Err why) (Err (f k)) → ◌≡◌ {A = FileAnswer} (Err why) (Err (f (length far.nodes)))
           placed f e = ap Err (err_same e) ∙ ap (λ j. Err (f j)) (sym far.many)
 
           stopped : (r : Result X Fault) (why : Fault) → r ≡ Err why → Stops why → NodesDrawn kind weights file_kind file_weights shown before n bytes r d' s'

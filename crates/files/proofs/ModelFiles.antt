@@ -21,7 +21,7 @@ use Rattle.files.specs.declared.model_file.ModelFile.{ModelFile}
 use Rattle.files.specs.Contents.{Contents, demand_letter, performance_bytes, demand_bytes}
 use Rattle.diagram.specs.Makings.{history_of}
 use Rattle.files.specs.Reading.{MayBeRecords, RecordsCounted, DemandLetter, Headed, Whole, RecordsRead}
-use Rattle.files.specs.Left.{nodes_before, LeftByReading}
+use Rattle.files.specs.StoreLeft.{nodes_before, LeftByReading}
 use Rattle.files.specs.ModelFiles.{ReadInto}
 use Rattle.files.specs.Analysing.{DemandsRead, NodesDrawn}
 use Rattle.diagram.proofs.RunGoesOn.{ok_not_err, err_same}

@@ -1,5 +1,5 @@
 -- A record that is read as the making of a node.
-use Rattle.std.proofs.Common.{◌≡◌, ℕ, ◌*◌, ◌≤◌, List, [], ◌∷◌, ◌++◌, length, get_or, drop, flat_map, IsOkAnd, Bor, Result, ap, sym, inl, inr, refl, subst, arith}
+use Rattle.std.proofs.Common.{◌≡◌, ℕ, ◌*◌, ◌≤◌, List, ◌∷◌, ◌++◌, length, get_or, drop, flat_map, IsOkAnd, Bor, Result, ap, sym, inl, inr, refl, subst, arith}
 use Rattle.diagram.specs.declared.limits.TheConstants.{ARMS}
 use Rattle.files.specs.declared.limits.TheConstants.{STATE_BYTES}
 use Rattle.std.proofs.lemmas.List.{length-append}

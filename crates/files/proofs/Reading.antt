@@ -6,7 +6,7 @@ use Rattle.kinds.specs.declared.weight.Weight
 use Rattle.diagram.specs.Refusals.{Asked}
 use Rattle.diagram.specs.Histories.{Making, added, joined_from, bridged_from, History, Reply, number}
 use Rattle.diagram.specs.RightAnswers.{RightAnswer}
-use Rattle.diagram.proofs.Asking.{yes}
+use Rattle.diagram.proofs.RunGoesOn.{yes, given}
 use Rattle.files.specs.declared.words.FilePerformance
 use Rattle.files.specs.declared.words.FileWeight
 use Rattle.files.specs.declared.fault.Fault.{Fault}
@@ -23,11 +23,6 @@ one_end (inl x) (inl y) on = on x.1 y.1
 one_end (inl x) (inr y) on = absurd (y.0 x.0)
 one_end (inr x) (inl y) on = absurd (x.0 y.0)
 one_end (inr x) (inr y) on = x.1 ∙ sym y.1
-
--- something was answered, so the question has the answer yes
-given : {X q A : Type 0} {x : X} {e : Fault} → Asked q (Ok x ≡ Err e) A → q × A
-given (inl x) = x
-given (inr x) = let none : ⊥ = cc (x.1) in absurd none
 
 -- what is written in the bytes is one value, and one rest after it
 written_once : {V C : Type 0} (write : V → List ℕ) {bytes : List ℕ} {End End' : V → List ℕ → Type 0} → Once write →

@@ -1,4 +1,4 @@
--- A node that answers, as the history has it, is current in the records.
+-- A node that answers, as the history has it, is up to date in the records.
 use Rattle.std.proofs.Common.{◌≡◌, ℕ, ◌<◌, ◌≤◌, List, length, length-take, length-drop, Result, Ok, Err, arith}
 use Rattle.kinds.specs.declared.performance.Performance
 use Rattle.kinds.specs.declared.weight.Weight
@@ -21,7 +21,7 @@ use Rattle.diagram.proofs.Questions.{current_question}
 use Rattle.diagram.proofs.RunGoesOn.{granted, given}
 use Rattle.files.specs.Analysing.{NodeAnswers}
 
--- a question about node k is asked whether the store is roomy, k is a node and k is current
+-- a question about node k is asked whether the store is roomy, k is a node and k is up to date
 abbrev OfNode : {T : Type 0} → Table → List T → ℕ → Type 0 → Type 0 → Type 0 → Type 0 → Type 0
 OfNode t s k short none stale rest = Asked (STORE ≤ length s) short (Asked (k < t.count) none (Asked (status_at t k ≡ UpToDate) stale rest))
 
@@ -34,7 +34,7 @@ module _ {T : Type 0} {t : Table} {s : List T} {k : ℕ} where
 
   -- what it is asked, it tells
   pub tells : {short none stale rest : Type 0} → NodeAnswers t s k → OfNode t s k short none stale rest → rest
-  tells a x = granted a.current (granted a.node (granted a.roomy x))
+  tells a x = granted a.up_to_date (granted a.node (granted a.roomy x))
 
 abbrev Told : ℕ → Result ℕ Refusal → Type 0
 Told n r = ◌≡◌ {A = Result ℕ Refusal} (Ok n) r
@@ -52,4 +52,4 @@ pub node_answers : {P W : Type 0} {kind : Performance.Ghosts P} {weights : Weigh
 node_answers {kind = kind} {weights = weights} laws weigh h d s k run roomy node answers =
     let holds = (run_right kind weights laws weigh h d s run).1 in
     let there : k < (records d).count = omega (arith, node, holds.count) in
-    record { roomy = roomy; node = there; current = (current_question kind weights h (records d) s d.sound holds k there).1 answers; fits = (d.sound.at k there).own.sized }
+    record { roomy = roomy; node = there; up_to_date = (current_question kind weights h (records d) s d.sound holds k there).1 answers; fits = (d.sound.at k there).own.sized }

@@ -1,4 +1,4 @@
--- What the steps of an analysis do; for private functions.
+-- Cited by private functions only: what the steps of an analysis do.
 use Rattle.std.specs.Prelude.{◌≡◌, ℕ, ◌<◌, ◌≤◌, List, [], ◌++◌, length, flat_map, Result, Ok, Err, IsOkAnd}
 use Rattle.std.specs.Borrow.{Bor}
 use Rattle.kinds.specs.declared.performance.Performance
@@ -9,24 +9,23 @@ use Rattle.diagram.specs.declared.diagram.Diagram.{Diagram}
 use Rattle.diagram.specs.declared.limits.TheConstants.{TERMS, STORE}
 use Rattle.diagram.specs.declared.node.Status.TheVariants.{UpToDate}
 use Rattle.diagram.specs.Records.{status_at, size_at}
-use Rattle.diagram.specs.Histories.{Making, Reply, History, made, Answers}
+use Rattle.diagram.specs.Histories.{Making, History, made, Answers}
 use Rattle.diagram.specs.RightAnswers.{RowOfNode}
-use Rattle.diagram.specs.Runs.{Run, Performs}
+use Rattle.diagram.specs.Runs.{Run}
 use Rattle.diagram.specs.Shown.{records}
 use Rattle.diagram.specs.Store.{row_at}
 use Rattle.files.specs.declared.words.FilePerformance
 use Rattle.files.specs.declared.words.FileWeight
 use Rattle.files.specs.declared.demands.Demands.{Demands}
 use Rattle.files.specs.declared.fault.Fault.{Fault}
-use Rattle.files.specs.declared.fault.Fault.TheVariants.{Refused}
 use Rattle.files.specs.declared.page.Page.{Page}
 use Rattle.files.specs.declared.limits.TheConstants.{DEMANDS, LONGEST_REPORT}
 use Rattle.files.specs.Contents.{Contents, performance_bytes}
-use Rattle.diagram.specs.Makings.{call_of, history_of, drawn, meaning}
+use Rattle.diagram.specs.Makings.{history_of, drawn, meaning}
 use Rattle.diagram.specs.InTurn.{RowsLeft}
 use Rattle.diagram.specs.declared.making.Making.{Making as Given}
 use Rattle.files.specs.Reading.{LastRecord, NodeRecord, RecordsRead}
-use Rattle.files.specs.Left.{FirstNodes, LeftAtFault}
+use Rattle.files.specs.StoreLeft.{FirstNodes, LeftAtFault}
 use Rattle.files.specs.Reports.{demand_line, state_line, report_of, Put}
 use Rattle.files.specs.Pages.{Wrote}
 
@@ -38,7 +37,7 @@ ManyAhead {V} write n bytes = (vs : List V) × (rest : List ℕ) × (length vs �
 pub record NodeAnswers {T : Type 0} (t : Table) (s : List T) (k : ℕ) : Type 0 where
   pub roomy : STORE ≤ length s
   pub node : k < t.count
-  pub current : status_at t k ≡ UpToDate
+  pub up_to_date : status_at t k ≡ UpToDate
   pub fits : size_at t k ≤ TERMS
 
 -- the last record is read: its demands, by their bytes

@@ -1,6 +1,5 @@
 -- Faults by layer, record and number, and the ways in which these are told.
 use Rattle.std.specs.Prelude.{ℕ, ◌+◌, ◌*◌, List, ◌++◌, ℤ, pos, neg_ℤ, Result, Ok, Err, codes, decimal}
-use Rattle.diagram.specs.declared.refusal.Refusal.{Refusal}
 use Rattle.diagram.specs.Refusals.{number_of}
 use Rattle.files.specs.declared.fault.Fault.{Fault}
 use Rattle.files.specs.declared.fault.Fault.TheVariants.{Model, Records, Letter, Body, LeftOver, Value, Refused, Room}

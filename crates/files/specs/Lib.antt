@@ -6,13 +6,13 @@ pub mod Contents
 pub mod Reading
 pub mod Reports
 pub mod Analyses
-pub mod Left
+pub mod StoreLeft
 pub mod Counted
 pub mod Analysing
 pub mod Pages
 pub mod ModelFiles
 pub mod Composed
 pub mod Models
-pub mod Listed
+pub mod ByModel
 pub mod Sizes
 pub mod Printed

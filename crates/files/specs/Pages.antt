@@ -1,4 +1,4 @@
--- Text written on a page; for private functions.
+-- Cited by private functions only: text written on a page.
 use Rattle.std.specs.Prelude.{◌≡◌, ℕ, ◌+◌, ◌<◌, ◌≤◌, List, ◌++◌, length, take, drop, Option, Some, None}
 use Rattle.files.specs.declared.page.Page.{Page}
 

@@ -17,6 +17,10 @@ use Rattle.diagram.specs.Makings.{TakesAll, TakenOr}
 abbrev pub MayBeRecords : ℕ → Type 0
 MayBeRecords n = (FEWEST_RECORDS ≤ n) × (n ≤ RECORDS)
 
+-- a file may have so many demands
+abbrev pub MayBeDemands : ℕ → Type 0
+MayBeDemands n = (1 ≤ n) × (n ≤ DEMANDS)
+
 -- the number of records stands first
 abbrev pub RecordsCounted : List ℕ → Type 0
 RecordsCounted (count ∷ records) = MayBeRecords count
@@ -42,7 +46,7 @@ body_length letter count = cond (letter == part_letter) (STATE_BYTES * count) (c
 -- the count may be, and the body is all there
 abbrev pub Whole : List ℕ → Type 0
 Whole (letter ∷ count ∷ body) =
-    (letter ≡ bridge_letter → count ≡ ARMS) × (letter ≡ demand_letter → (1 ≤ count) × (count ≤ DEMANDS)) × (body_length letter count ≤ length body)
+    (letter ≡ bridge_letter → count ≡ ARMS) × (letter ≡ demand_letter → MayBeDemands count) × (body_length letter count ≤ length body)
 Whole bytes = ⊥
 
 -- Record k is to write one value: first its letter is asked about, then whether it is whole, then whether its body writes a value. If each answer
@@ -64,11 +68,11 @@ LastRecord file_kind k bytes refused told =
     RecordRead DemandLetter (demand_bytes file_kind) k bytes refused (λ demands rest. Asked (rest ≡ []) (refused LeftOver) (told demands))
 
 module _ {P W : Type 0} (kind : Performance.Ghosts P) (weights : Weight.Ghosts W) (file_kind : FilePerformance.Ghosts P) (file_weights : FileWeight.Ghosts W) where
-  abbrev Answer : Type 0
-  Answer = Result (Contents P W) Fault
+  abbrev FileAnswer : Type 0
+  FileAnswer = Result (Contents P W) Fault
 
   -- so many records that make nodes, after these, and then the last
-  abbrev pub RecordsRead : ℕ → List (Making P W) → List ℕ → Answer → Type 0
+  abbrev pub RecordsRead : ℕ → List (Making P W) → List ℕ → FileAnswer → Type 0
   RecordsRead zero ms bytes answer =
       LastRecord file_kind (length ms) bytes (λ why. answer ≡ Err why)
       (λ demands. answer ≡ Ok (record { nodes = ms; demands = demands }))
@@ -77,21 +81,21 @@ module _ {P W : Type 0} (kind : Performance.Ghosts P) (weights : Weight.Ghosts W
       (λ m rest. TakenOr kind weights ms m (λ why. answer ≡ Err (Refused (length ms) why)) (RecordsRead n (m ∷ ms) rest answer))
 
   -- what a file says from the number of its records on: its contents, or its first fault
-  abbrev pub ContentsRead : List ℕ → Answer → Type 0
+  abbrev pub ContentsRead : List ℕ → FileAnswer → Type 0
   ContentsRead bytes answer = Asked (RecordsCounted bytes) (answer ≡ Err Records) (RecordsRead (get_or bytes 0 0 - 1) [] (drop 1 bytes) answer)
 
   -- contents that a file may have
   pub record ValidContents (c : Contents P W) : Type 0 where
     pub nodes : (1 ≤ length c.nodes) × (length c.nodes ≤ NODES)
-    pub demands : (1 ≤ length c.demands) × (length c.demands ≤ DEMANDS)
+    pub demands : MayBeDemands (length c.demands)
     pub taken : TakesAll kind weights c.nodes
 
   -- a file is read as these contents exactly if it is their writing, and they are valid
   abbrev pub ReadsBack : Type 0
   ReadsBack =
-      (bytes : List ℕ) (answer : Answer) → ContentsRead bytes answer → (c : Contents P W) →
+      (bytes : List ℕ) (answer : FileAnswer) → ContentsRead bytes answer → (c : Contents P W) →
       (answer ≡ Ok c) ↔ ((bytes ≡ contents_bytes file_kind file_weights c) × ValidContents c)
 
   -- and there is one answer
   abbrev pub ReadsOneWay : Type 0
-  ReadsOneWay = (bytes : List ℕ) (a b : Answer) → ContentsRead bytes a → ContentsRead bytes b → a ≡ b
+  ReadsOneWay = (bytes : List ℕ) (a b : FileAnswer) → ContentsRead bytes a → ContentsRead bytes b → a ≡ b

@@ -1,4 +1,4 @@
--- The room that an analysis takes.
+-- Cited by private functions only: the bytes that an analysis takes.
 use Rattle.std.specs.Prelude.{◌*◌, ◌^◌, ◌<◌}
 use prog.Memory.{size}
 use denote.RattleType.{RattleType}

@@ -2,8 +2,8 @@
 ghost use Rattle.std.specs.Prelude.{◌≤◌, IfOk};
 ghost use Rattle.files.specs.Analyses.{AnalysedAs, AnalysedOver};
 ghost use Rattle.files.specs.Counted.{TrueCounts};
-ghost use Rattle.files.specs.Left.{LeftByAnalysing};
-ghost use Rattle.files.specs.Listed.{Analysed, ListedCounts};
+ghost use Rattle.files.specs.StoreLeft.{LeftByAnalysing};
+ghost use Rattle.files.specs.ByModel.{Analysed, ListedCounts};
 ghost use Rattle.files.specs.Sizes.{StoreFits};
 
 use crate::fault::Fault;
@@ -57,7 +57,9 @@ fn analyse_named(model: &[u8], output: &mut [u8]) -> Result<usize, Fault>
     Err(Fault::Model)
 }
 
-/// The same for a kind and a weight of one's own, from the file's second byte on.
+/// Reads a model file of a kind and a weight of one's own from its second byte on, works out its
+/// nodes, and puts the report on the last one first in the output. Answers the report's length in
+/// bytes. At a fault the output stays as it was.
 ///
 /// The diagram works in the store that is lent, which has the rows of the nodes afterwards; at a
 /// fault, of those that were made and collected before it. The states of a record are put into the
@@ -81,10 +83,11 @@ pub fn analyse_as<P: Performance + FilePerformance, W: Weight + FileWeight>(
 {
     let mut model = read(bytes, store, room)?;
     let last = model.nodes - 1;
-    match model.diagram.collect_all(store) {
-        Ok(()) => report(&model.diagram, store, last, &model.demands, output),
-        Err(at) => Err(Fault::Refused(at.node as u8, at.refusal)),
-    }
+    model
+        .diagram
+        .collect_all(store)
+        .map_err(|at| Fault::Refused(at.node as u8, at.refusal))?;
+    report(&model.diagram, store, last, &model.demands, output)
 }
 
 // The same in arrays of its own, which begin with a term that is never looked at.

@@ -1,5 +1,6 @@
 //! The demands of a file: its last record.
 ghost use Rattle.std.specs.Prelude.{◌↔◌, ◌*◌, ◌≤◌, IsTrue, length, IfSome, IfNone};
+ghost use Rattle.files.specs.Reading.{MayBeDemands};
 ghost use Rattle.files.specs.Contents.{performance_bytes, DemandAt, NoDemandAt};
 ghost use Rattle.files.specs.Analysing.{DemandsRead, ManyAhead};
 
@@ -73,7 +74,7 @@ impl<'a, P: FilePerformance> Demands<'a, P> {
 
 // May a file have so many demands?
 fn may_be_demands(n: usize) -> bool
-    ensures { IsTrue result ↔ ((1 ≤ n) × (n ≤ DEMANDS)) }
+    ensures { IsTrue result ↔ MayBeDemands n }
 {
     (1..=DEMANDS).contains(&n)
 }

@@ -1,5 +1,5 @@
 //! The answer in the form that C takes; the crate `vividlawn` exports it.
-ghost use Rattle.files.specs.Listed.{AnsweredForC};
+ghost use Rattle.files.specs.ByModel.{AnsweredForC};
 
 use crate::analysis::analyse;
 

@@ -22,13 +22,14 @@ pub const ROOM: usize = 255;
 /// What stands for a record where none is at fault.
 pub const NO_RECORD: u8 = 255;
 
-/// The bytes of the line of a demand, at most: 16 of words, blanks and its end, and four numbers of
-/// ten digits.
-pub const NEED_LINE: usize = 56;
+// The digits of a number in a report, at most: it has 32 bits.
+pub(crate) const DIGITS: usize = 10;
 
-/// The bytes of the line of a term, at most: eight of words, blanks and its end, and three numbers
-/// of ten digits.
-pub const TERM_LINE: usize = 38;
+/// The bytes of the line of a demand, at most: words, blanks and its end, and four numbers.
+pub const NEED_LINE: usize = 16 + 4 * DIGITS;
+
+/// The bytes of the line of a term, at most: words, blanks and its end, and three numbers.
+pub const TERM_LINE: usize = 8 + 3 * DIGITS;
 
 /// The bytes of a report, at most. An output of so many has room for each.
 pub const LONGEST_REPORT: usize = DEMANDS * NEED_LINE + TERMS * TERM_LINE;

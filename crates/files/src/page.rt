@@ -3,7 +3,7 @@ ghost use Rattle.std.specs.Prelude.{◌≡◌, ◌+◌, ◌*◌, ◌<◌, ◌≤
 ghost use Rattle.files.specs.Reports.{figure, need_line, term_line};
 ghost use Rattle.files.specs.Pages.{written, Wrote, Copied};
 
-use crate::limits::{LONGEST_REPORT, NEED_LINE, TERM_LINE};
+use crate::limits::{DIGITS, LONGEST_REPORT, NEED_LINE, TERM_LINE};
 
 #[derive(Clone, Copy)]
 pub(crate) struct Page {
@@ -50,11 +50,11 @@ impl Page {
         self.push(b'0' + (n % 10) as u8);
     }
 
-    // A number of 32 bits has ten digits at most.
+    // A number of 32 bits has so many digits at most.
     fn figure(&mut self, n: u32)
-        requires { self.now.len + 10 ≤ LONGEST_REPORT }
+        requires { self.now.len + DIGITS ≤ LONGEST_REPORT }
         ensures wrote { Wrote self.old (figure n) self.new }
-        ensures short { length (figure n) ≤ 10 }
+        ensures short { length (figure n) ≤ DIGITS }
     {
         self.number(n);
     }

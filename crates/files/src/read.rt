@@ -1,7 +1,7 @@
 //! Reading: from the bytes of a model file to a diagram and its demands.
 ghost use Rattle.std.specs.Prelude.{◌↔◌, IsTrue};
 ghost use Rattle.files.specs.Reading.{MayBeRecords, ReadsBack, ReadsOneWay};
-ghost use Rattle.files.specs.Left.{LeftByReading};
+ghost use Rattle.files.specs.StoreLeft.{LeftByReading};
 ghost use Rattle.files.specs.ModelFiles.{ReadInto};
 
 use crate::demands::Demands;

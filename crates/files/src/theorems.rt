@@ -2,7 +2,7 @@
 //! is printed; and the limits as numbers.
 ghost use Rattle.std.specs.Prelude.{◌≡◌};
 ghost use Rattle.files.specs.Counted.{AnalysedCounts};
-ghost use Rattle.files.specs.Listed.{ReportsCountTruly};
+ghost use Rattle.files.specs.ByModel.{ReportsCountTruly};
 
 use crate::limits::{
     DEMAND_BYTES, DEMANDS, FEWEST_RECORDS, LONGEST_REPORT, LOOKED_AT, NEED_LINE, NO_RECORD,

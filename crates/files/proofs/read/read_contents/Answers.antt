@@ -3,7 +3,7 @@ use Rattle.diagram.specs.declared.limits.TheConstants.{STORE}
 use Rattle.diagram.specs.Calls.{Made}
 use Rattle.diagram.specs.Shown.{records}
 use Rattle.files.specs.Reading.{MayBeRecords}
-use Rattle.files.proofs.Analysing.{passed}
+use Rattle.diagram.proofs.PassedOn.{passed}
 use Rattle.files.proofs.ModelFiles.{counted, counts, uncounted, nodes_refused, last_refused, all_read}
 use Rattle.files.proofs.ManyNodes.{roomy_of}
 use Rattle.files.proofs.read.read_contents.Goals.{In_ok-diagram}

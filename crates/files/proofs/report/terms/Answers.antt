@@ -4,7 +4,7 @@ use Rattle.diagram.specs.declared.limits.TheConstants.{TERMS}
 use Rattle.diagram.specs.Shown.{records}
 use Rattle.diagram.specs.Records.{size_at}
 use Rattle.diagram.proofs.RunGoesOn.{granted}
-use Rattle.files.proofs.Analysing.{passed}
+use Rattle.diagram.proofs.PassedOn.{passed}
 use Rattle.files.proofs.Lines.{one_more, all_lines}
 use Rattle.files.proofs.Shown.{sized, row_long, tells}
 use Rattle.files.proofs.report.terms.Goals as goal

@@ -2,7 +2,7 @@ use Rattle.std.proofs.Common.{◌++◌, flat_map, take, ◌∙◌, sym, ap, arit
 use Rattle.std.proofs.lemmas.List.{length-set, length-take-le, take_more_set}
 use Rattle.files.specs.Contents.{state_bytes}
 use Rattle.files.proofs.Bytes.{file_kind_of, file_weighing_of, state_once}
-use Rattle.files.proofs.Many.{one_more, too_few}
+use Rattle.files.proofs.ValuesAhead.{one_more, too_few}
 use Rattle.files.proofs.states.states.Goals as goal
 
 pub returns-in_default-clause-none : goal.returns-in_default-clause-none

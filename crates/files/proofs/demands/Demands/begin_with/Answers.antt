@@ -2,7 +2,7 @@ use Rattle.std.proofs.Common.{[], ◌∷◌, ◌++◌, arith}
 use Rattle.std.proofs.lemmas.List.{length_push}
 use Rattle.files.specs.Contents.{performance_bytes}
 use Rattle.files.proofs.Bytes.{file_kind_of, performance_once, performance_at}
-use Rattle.files.proofs.Many.{one_more, too_few}
+use Rattle.files.proofs.ValuesAhead.{one_more, too_few}
 use Rattle.files.proofs.demands.Demands.begin_with.Goals as goal
 
 pub returns-in_default : goal.returns-in_default

@@ -9,7 +9,7 @@ use Rattle.kinds.proofs.Lawful.{Kind, Weighing}
 use Rattle.terms.specs.declared.term.Term.{Term}
 use Rattle.terms.proofs.Canonical.{row_unique}
 use Rattle.diagram.specs.Histories.{History, made}
-use Rattle.diagram.specs.InTurn.{Short, TooLong}
+use Rattle.diagram.specs.InTurn.{Short, NotShort}
 use Rattle.diagram.specs.RightAnswers.{RowOfNode}
 use Rattle.files.specs.declared.words.FilePerformance
 use Rattle.files.specs.declared.words.FileWeight
@@ -19,8 +19,8 @@ use Rattle.diagram.specs.Makings.{drawn}
 use Rattle.files.specs.Reading.{ValidContents}
 use Rattle.files.specs.Analyses.{Reported, ReportedOr, AnalysedAs}
 use Rattle.files.specs.Faults.{fault_text}
-use Rattle.files.specs.Listed.{Analysed}
-use Rattle.files.specs.Printed.{printed, Answers}
+use Rattle.files.specs.ByModel.{Analysed}
+use Rattle.files.specs.Printed.{printed, PrintsAnswer}
 use Rattle.files.specs.declared.limits.TheConstants.{LONGEST_REPORT}
 use Rattle.files.specs.Reports.{report_of, Unreported, Put}
 use Rattle.diagram.proofs.Asking.{yes}
@@ -40,7 +40,7 @@ module _
     report = report_of kind weights file_kind file_weights c.demands row
 
     module _ (few : length report ≤ LONGEST_REPORT) (out : List ℕ) (r : Result ℕ Fault) (out' : List ℕ) where
-      not_long : (k : ℕ) → k < made h → (why : _) → TooLong kind weights h k why → ⊥
+      not_long : (k : ℕ) → k < made h → (why : _) → NotShort kind weights h k why → ⊥
       not_long k l why (inl (arms, e)) = arms (short k l).0
       not_long k l why (inr (arms, results, e)) = results (short k l).1
 
@@ -69,7 +69,7 @@ empty_long = length-replicate {A = ℕ} LONGEST_REPORT 0
 module _ (bytes : List ℕ) (old new : Option (List ℕ)) where
   -- what is printed of a file with this report
   pub report_printed : (report : List ℕ) → length report ≤ LONGEST_REPORT →
-      ((out : List ℕ) (r : Result ℕ Fault) (out' : List ℕ) → Analysed bytes out r out' ↔ Put report out r out') → Answers bytes old new ↔ Appends old new report
+      ((out : List ℕ) (r : Result ℕ Fault) (out' : List ℕ) → Analysed bytes out r out' ↔ Put report out r out') → PrintsAnswer bytes old new ↔ Appends old new report
   report_printed report few is = (
     λ (out, r, out', long, x, appends).
         let put = granted (omega (arith, few, long)) ((is out r out').0 x) in
@@ -88,7 +88,7 @@ module _ (bytes : List ℕ) (old new : Option (List ℕ)) where
   )
 
   -- what is printed of a file with this fault
-  pub fault_printed : (why : Fault) → ((out : List ℕ) (r : Result ℕ Fault) (out' : List ℕ) → Analysed bytes out r out' ↔ Unreported out r out' why) → Answers bytes old new ↔ Appends old new (fault_text why ++ 10 ∷ [])
+  pub fault_printed : (why : Fault) → ((out : List ℕ) (r : Result ℕ Fault) (out' : List ℕ) → Analysed bytes out r out' ↔ Unreported out r out' why) → PrintsAnswer bytes old new ↔ Appends old new (fault_text why ++ 10 ∷ [])
   fault_printed why is = (
     λ (out, r, out', long, x, appends).
         let gone = (is out r out').0 x in
