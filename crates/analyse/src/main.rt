@@ -2,7 +2,7 @@
 #![tactic(auto)]
 
 ghost use Rattle.std.specs.Prelude.{◌≡◌, IfOk, IfSome, OnOk, take};
-ghost use Rattle.files.specs.Printed.{Answers};
+ghost use Rattle.files.specs.Printed.{PrintsAnswer};
 
 use files::analysis::analyse;
 use files::limits::{LONGEST_REPORT, LOOKED_AT};
@@ -22,7 +22,7 @@ fn model_file<R: Read + Drop>(alloc: Global, input: R) -> io::Result<Vec<u8>>
 
 // Writes what the model comes to: its report, or the line of its fault.
 fn answer<W: Write>(model: &[u8], page: &mut W) -> io::Result<()>
-    ensures { OnOk result (Answers model.now (W.contents page.old) (W.contents page.new)) }
+    ensures { OnOk result (PrintsAnswer model.now (W.contents page.old) (W.contents page.new)) }
 {
     let mut output = [0; LONGEST_REPORT];
     match analyse(model, &mut output) {
@@ -32,14 +32,14 @@ fn answer<W: Write>(model: &[u8], page: &mut W) -> io::Result<()>
 }
 
 // The program, from its input to its page.
-fn run<R: Read + Drop, W: Write>(alloc: Global, input: R, page: &mut W) -> io::Result<()>
+fn answer_input<R: Read + Drop, W: Write>(alloc: Global, input: R, page: &mut W) -> io::Result<()>
     ensures { OnOk result (IfSome (R.remaining input) (λ bytes.
-        Answers (take LOOKED_AT bytes) (W.contents page.old) (W.contents page.new))) }
+        PrintsAnswer (take LOOKED_AT bytes) (W.contents page.old) (W.contents page.new))) }
 {
     let model = model_file(alloc, input)?;
     answer(&model, page)
 }
 
 fn main(rt: HostRuntime) -> io::Result<()> {
-    run(rt.alloc(), rt.stdin(), &mut rt.stdout())
+    answer_input(rt.alloc(), rt.stdin(), &mut rt.stdout())
 }

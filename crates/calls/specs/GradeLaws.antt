@@ -1,19 +1,15 @@
 -- Grades are the same where their numbers are, and so the laws of numbers hold of grades.
-use Rattle.std.specs.Prelude.{◌≡◌, ℕ, max}
+use Rattle.std.specs.Prelude.{◌≡◌}
 use Rattle.std.specs.declared.cmp.Ordering.TheVariants.{Less, Equal}
 use Rattle.std.specs.Ordering.{ordering_reverse}
-use Rattle.std.proofs.Common.{arith}
 use Rattle.std.proofs.Math.Nat.{min_comm, max_comm}
 use Rattle.std.proofs.lemmas.Cmp.{nat_cmp_total, tied_itself}
-use Rattle.kinds.specs.WordLaws.{nat_equal, min_assoc}
+use Rattle.kinds.specs.WordLaws.{nat_equal, min_assoc, max_assoc}
 use Rattle.calls.specs.GradeKind.{grade_compared, worse, better}
 use Rattle.calls.specs.declared.grade.Grade.{Grade}
 
 same : (v w : Grade) → v.number ≡ w.number → v ≡ w
 same v w p = λ i. record { number = p i }
-
-max_assoc : (a b c : ℕ) → max (max a b) c ≡ max a (max b c)
-max_assoc a b c = omega arith
 
 pub compared_same : (v w : Grade) → grade_compared v w ≡ Equal → v ≡ w
 compared_same v w h = same v w (nat_equal v.number w.number h)

@@ -127,7 +127,7 @@ fn call<P: Performance + Written>(
 
 // An error where a call is answered other than is wanted. The whole line is printed before, since
 // an error keeps 120 bytes.
-fn compare(rt: &HostRuntime, asked: &str, said: &str, wanted: &str) -> anyhow::Result<()>
+fn compare_answer(rt: &HostRuntime, asked: &str, said: &str, wanted: &str) -> anyhow::Result<()>
     ensures { IfOk result (λ _. said.now ≡ wanted.now) }
 {
     if said != wanted {
@@ -158,7 +158,7 @@ fn play_line<P: Performance + Written>(
         bail!("the store has fewer than {len} terms");
     }
     let said = call(rt, diagram, &mut store[..len], asked)?;
-    compare(rt, asked, said.as_str(), wanted)
+    compare_answer(rt, asked, said.as_str(), wanted)
 }
 
 // Makes the calls, one a line, and answers how many; an error where one is answered other than it

@@ -24,10 +24,10 @@ use Rattle.grades.specs.contracts.grade_kind.GradePerformance.TheImpl.{ghosts as
 use Rattle.grades.specs.contracts.batches_weight.BatchesWeight.TheImpl.{ghosts as batches_weight}
 use Rattle.grades.specs.declared.batches.Batches.{Batches}
 use Rattle.grades.specs.declared.grade.Grade.{Grade}
-use Rattle.grades.specs.Shares.{terms_of_node, RowsOfShare}
-use Rattle.grades.specs.Building.{parts_made, worked_out, LeftByAdding, PartsAdded}
+use Rattle.grades.specs.Shares.{terms_of_node, RowsOfShare, LeftByParts}
+use Rattle.grades.specs.Building.{parts_made, worked_out, PartsAdded}
 use Rattle.grades.proofs.Laws.{grade_laws, batch_laws}
-use Rattle.grades.proofs.Working.{all_lines, all_products}
+use Rattle.grades.proofs.Building.{all_lines, all_products}
 
 abbrev Terms : Type 0
 Terms = List (Term Grade Batches)
@@ -91,7 +91,7 @@ module _ (first second finishing : Terms) where
 
   module _ (promise : AnswersRight grade_kind batches_weight) (d₀ : Diagram Grade Batches) (s₀ : Terms) (new : Made records s₀ (Ok d₀)) where
     abbrev Left : Terms → Type 0
-    Left = LeftByAdding first second finishing s₀
+    Left = LeftByParts first second finishing 3 s₀
 
     roomy : STORE ≤ length s₀
     roomy = (given new).0

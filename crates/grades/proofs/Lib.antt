@@ -1,3 +1,3 @@
 pub mod Laws
 pub mod Leaving
-pub mod Working
+pub mod Building

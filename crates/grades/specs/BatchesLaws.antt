@@ -3,9 +3,10 @@ use Rattle.std.specs.Prelude.{◌≡◌, true, refl}
 use Rattle.std.proofs.Common.{ap}
 use Rattle.std.proofs.lemmas.Bool.{eqb-true}
 use Rattle.kinds.specs.Caps as caps
+use Rattle.kinds.specs.Bounded.{bound_path}
+use Rattle.kinds.specs.Holding.{NumbersTo}
 use Rattle.kinds.specs.WordLaws.{holds}
 use Rattle.grades.specs.BatchesWeight.{top16, how_many, no_batches, batches_sum, batches_product, are_none}
-use Rattle.grades.specs.Bounded.{NumbersTo, bound_path}
 use Rattle.grades.specs.declared.batches.Batches.{Batches}
 
 pub batches_same : (a b : Batches) → how_many a ≡ how_many b → a ≡ b

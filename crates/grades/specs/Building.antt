@@ -1,12 +1,9 @@
--- The plant as it is drawn, step by step; for private functions.
-use Rattle.std.specs.Prelude.{◌≡◌, ℕ, List, [], ◌∷◌, length, Result, Ok, Err}
+-- Cited by private functions only: the plant as it is drawn, step by step.
+use Rattle.std.specs.Prelude.{◌≡◌, ℕ, List, [], ◌∷◌, length, Result, Ok}
 use Rattle.terms.specs.declared.term.Term.{Term}
 use Rattle.terms.specs.declared.term.Way.TheVariants.{Series, Parallel}
 use Rattle.diagram.specs.declared.diagram.Diagram.{Diagram}
 use Rattle.diagram.specs.declared.refusal.Refusal.{Refusal}
-use Rattle.diagram.specs.declared.refusal.Refusal.TheVariants.{WrongStates}
-use Rattle.diagram.specs.Refusals.{Asked}
-use Rattle.diagram.specs.Nodes.{EnoughStates}
 use Rattle.diagram.specs.Histories.{Making, added, joined_from, collecting, number, Entry, History}
 use Rattle.diagram.specs.Runs.{Run}
 use Rattle.diagram.specs.Makings.{history_of}
@@ -16,7 +13,7 @@ use Rattle.grades.specs.declared.batches.Batches.{Batches}
 use Rattle.grades.specs.declared.grade.Grade.{Grade}
 use Rattle.grades.specs.declared.share.Joined.{Joined}
 use Rattle.grades.specs.declared.share.Nodes.{Nodes}
-use Rattle.grades.specs.Shares.{RowsOfShare}
+use Rattle.grades.specs.Shares.{StatesAsked, RowsOfShare}
 
 -- the parts' numbers, as they are made
 abbrev pub in_order : Nodes
@@ -42,21 +39,12 @@ module _ (first second finishing : List (Term Grade Batches)) where
   abbrev pub worked_out : ℕ → ℕ → ℕ → History Grade Batches
   worked_out lent m n = collected lent 4 n ∷ collected lent 3 m ∷ history_of lent nodes_made
 
-  -- what is left of a store that is long enough, once the parts are added: the rows of those before the first that is refused
-  abbrev pub LeftByAdding : List (Term Grade Batches) → List (Term Grade Batches) → Type 0
-  LeftByAdding s s' =
-      Asked (EnoughStates (length first)) (s' ≡ s)
-      (Asked (EnoughStates (length second)) (RowsOfShare first second finishing 1 s s')
-      (Asked (EnoughStates (length finishing)) (RowsOfShare first second finishing 2 s s') (RowsOfShare first second finishing 3 s s')))
-
   module _ (lent : ℕ) (d : Diagram Grade Batches) (s : List (Term Grade Batches)) where
     -- the parts are added, or the first that has too few states or too many is refused
     abbrev pub PartsAdded : Result Nodes Refusal → Type 0
     PartsAdded r =
-        Asked (EnoughStates (length first)) (r ≡ Err WrongStates)
-        (Asked (EnoughStates (length second)) (r ≡ Err WrongStates)
-        (Asked (EnoughStates (length finishing)) (r ≡ Err WrongStates)
-        ((r ≡ Ok in_order) × Run grade_kind batches_weight (history_of lent parts_made) d s)))
+        StatesAsked first second finishing r
+        ((r ≡ Ok in_order) × Run grade_kind batches_weight (history_of lent parts_made) d s)
 
     -- the parts are joined
     abbrev pub PartsJoined : Result Joined Refusal → Type 0

@@ -3,7 +3,7 @@ use Rattle.std.specs.Prelude.{ℕ, min, max, Bool, nat_le}
 use Rattle.std.specs.declared.cmp.Ordering.{Ordering}
 use Rattle.std.specs.Ordering.{nat_cmp}
 use Rattle.kinds.specs.Paths.{by_paths}
-use Rattle.grades.specs.Bounded.{min_fits, max_fits}
+use Rattle.kinds.specs.Bounded.{min_fits, max_fits}
 use Rattle.grades.specs.declared.grade.Grade.{Grade}
 
 -- the number of a grade

@@ -1,10 +1,10 @@
 -- Grades are equal where their numbers are, and so the laws of numbers hold of grades. (Other laws are found by search.)
-use Rattle.std.specs.Prelude.{◌≡◌, ℕ, max, refl}
+use Rattle.std.specs.Prelude.{◌≡◌, refl}
 use Rattle.std.specs.declared.cmp.Ordering.TheVariants.{Equal}
 use Rattle.std.proofs.Math.Nat.{min_comm, max_comm}
-use Rattle.std.proofs.Common.{arith}
-use Rattle.kinds.specs.WordLaws.{holds, nat_equal, min_assoc}
-use Rattle.grades.specs.Bounded.{NumbersTo, bound_path}
+use Rattle.kinds.specs.Bounded.{bound_path}
+use Rattle.kinds.specs.Holding.{NumbersTo}
+use Rattle.kinds.specs.WordLaws.{holds, nat_equal, min_assoc, max_assoc}
 use Rattle.grades.specs.GradeKind.{grade_number, grade_compared, lower, higher}
 use Rattle.grades.specs.declared.grade.Grade.{Grade}
 
@@ -25,9 +25,6 @@ lower_assoc a b c = grade_same _ _ (min_assoc a.digit b.digit c.digit)
 
 pub lower_comm : (a b : Grade) → lower a b ≡ lower b a
 lower_comm a b = grade_same _ _ (min_comm a.digit b.digit)
-
-max_assoc : (a b c : ℕ) → max (max a b) c ≡ max a (max b c)
-max_assoc a b c = omega arith
 
 pub higher_assoc : (a b c : Grade) → higher (higher a b) c ≡ higher a (higher b c)
 higher_assoc a b c = grade_same _ _ (max_assoc a.digit b.digit c.digit)

@@ -1,4 +1,3 @@
-pub mod Bounded
 pub mod GradeKind
 pub mod GradeLaws
 pub mod BatchesWeight

@@ -33,4 +33,4 @@ module _ (t : Table) (s : List (Term Grade Batches)) (k : ℕ) where
   pub record Answering : Type 0 where
     pub roomy : STORE ≤ length s
     pub node : k < t.count
-    pub current : status_at t k ≡ UpToDate
+    pub up_to_date : status_at t k ≡ UpToDate

@@ -1,11 +1,12 @@
 -- The plant in a diagram: how it is drawn, and how it is worked out.
-use Rattle.std.specs.Prelude.{◌≡◌, ℕ, ◌≤◌, ◌⊎◌, List, [], ◌∷◌, length, map, Ok, Err}
+use Rattle.std.specs.Prelude.{◌≡◌, ℕ, ◌≤◌, List, [], ◌∷◌, length, map, Ok, Err}
 use Rattle.terms.specs.declared.term.Term.{Term}
 use Rattle.diagram.specs.declared.limits.TheConstants.{STORE}
 use Rattle.diagram.specs.declared.refusal.Refusal.{Refusal}
 use Rattle.diagram.specs.declared.table.Table.{Table}
 use Rattle.diagram.specs.Refusals.{Asked}
 use Rattle.diagram.specs.Calls.{Restated, Collected}
+use Rattle.diagram.specs.InTurn.{BothCollected, OneRefused}
 use Rattle.diagram.specs.Runs.{Run}
 use Rattle.diagram.specs.Shown.{records}
 use Rattle.diagram.specs.Makings.{history_of}
@@ -42,25 +43,13 @@ pub record Stands (parts : States) (lent : ℕ) (store : List (Term Grade Batche
 abbrev pub LeftByDrawing : States → List (Term Grade Batches) → List (Term Grade Batches) → Type 0
 LeftByDrawing p s s' = Asked (STORE ≤ length s) (s' ≡ s) (RowsOfShare p.first p.second p.finishing 3 s s')
 
--- two nodes are collected, one after the other
-abbrev pub BothCollected : Table → List (Term Grade Batches) → ℕ → ℕ → Table → List (Term Grade Batches) → Type 0
-BothCollected t s first second t' s' =
-    (between : Table) × (left : List (Term Grade Batches)) × (m : ℕ) × (n : ℕ) ×
-    Collected grade_kind batches_weight t s first (Ok m) between left × Collected grade_kind batches_weight between left second (Ok n) t' s'
-
--- the first of two nodes is refused, or the second once the first is collected
-abbrev pub OneRefused : Table → List (Term Grade Batches) → ℕ → ℕ → Refusal → Table → List (Term Grade Batches) → Type 0
-OneRefused t s first second why t' s' =
-    Collected grade_kind batches_weight t s first (Err why) t' s'
-    ⊎ ((between : Table) × (left : List (Term Grade Batches)) × (m : ℕ) × Collected grade_kind batches_weight t s first (Ok m) between left × Collected grade_kind batches_weight between left second (Err why) t' s')
-
 -- the lines are collected, and then the whole; or one of them is refused
 module _ (p : Plant) (s : List (Term Grade Batches)) (p' : Plant) (s' : List (Term Grade Batches)) where
   abbrev pub WholeCollected : Type 0
-  WholeCollected = BothCollected (records p.diagram) s p.lines p.whole (records p'.diagram) s'
+  WholeCollected = BothCollected grade_kind batches_weight (records p.diagram) s p.lines p.whole (records p'.diagram) s'
 
   abbrev pub WholeRefused : Refusal → Type 0
-  WholeRefused why = OneRefused (records p.diagram) s p.lines p.whole why (records p'.diagram) s'
+  WholeRefused why = OneRefused grade_kind batches_weight (records p.diagram) s p.lines p.whole why (records p'.diagram) s'
 
 -- the first line has new states; a collecting of the whole is refused then, and after it the lines and the whole are collected
 pub record Retooled (p : Plant) (s : List (Term Grade Batches)) (p' : Plant) (s' : List (Term Grade Batches)) : Type 0 where
@@ -74,4 +63,4 @@ pub record Retooled (p : Plant) (s : List (Term Grade Batches)) (p' : Plant) (s'
   pub as_stale : Table
   pub kept : List (Term Grade Batches)
   pub early : Collected grade_kind batches_weight stale left p.whole (Err why) as_stale kept
-  pub again : BothCollected as_stale kept p.lines p.whole (records p'.diagram) s'
+  pub again : BothCollected grade_kind batches_weight as_stale kept p.lines p.whole (records p'.diagram) s'

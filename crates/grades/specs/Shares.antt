@@ -21,15 +21,19 @@ module _ (first second finishing : List (Term Grade Batches)) where
   abbrev pub products : List (Term Grade Batches)
   products = combinations batches_weight lower (combinations batches_weight higher first second) finishing
 
+  -- the first of the three that has too few states or too many is refused
+  abbrev pub StatesAsked : {A : Type 0} → Result A Refusal → Type 0 → Type 0
+  StatesAsked r rest =
+      Asked (EnoughStates (length first)) (r ≡ Err WrongStates)
+      (Asked (EnoughStates (length second)) (r ≡ Err WrongStates)
+      (Asked (EnoughStates (length finishing)) (r ≡ Err WrongStates) rest))
+
   -- r is how many batches are of this grade or better, and how many there are; or, of the first question with a no, its refusal. No result is
   -- too long: there are ten grades, and a row has one term of each at most.
   abbrev pub ShareOf : Grade → ℕ → Result (Batches × Batches) Refusal → Type 0
   ShareOf grade lent r =
       Asked (STORE ≤ lent) (r ≡ Err ShortStore)
-      (Asked (EnoughStates (length first)) (r ≡ Err WrongStates)
-      (Asked (EnoughStates (length second)) (r ≡ Err WrongStates)
-      (Asked (EnoughStates (length finishing)) (r ≡ Err WrongStates)
-      (r ≡ Ok (met_of grade_kind batches_weight grade products, total_of batches_weight products)))))
+      (StatesAsked r (r ≡ Ok (met_of grade_kind batches_weight grade products, total_of batches_weight products)))
 
   -- what each node is made of: the three parts, the lines in parallel, and the whole
   abbrev pub terms_of_node : ℕ → List (Term Grade Batches)
@@ -39,10 +43,14 @@ module _ (first second finishing : List (Term Grade Batches)) where
   abbrev pub RowsOfShare : ℕ → List (Term Grade Batches) → List (Term Grade Batches) → Type 0
   RowsOfShare n = RowsStand grade_kind batches_weight (λ k. k < n) terms_of_node
 
-  -- what is left of the store, question by question: the rows of the parts that were added before the first no, or those of all five nodes
-  abbrev pub LeftOfShare : List (Term Grade Batches) → List (Term Grade Batches) → Type 0
-  LeftOfShare s s' =
-      Asked (STORE ≤ length s) (s' ≡ s)
-      (Asked (EnoughStates (length first)) (s' ≡ s)
+  -- what is left of a store that is long enough, question by question: the rows of the parts that were added before the
+  -- first no, or those of the first n nodes
+  abbrev pub LeftByParts : ℕ → List (Term Grade Batches) → List (Term Grade Batches) → Type 0
+  LeftByParts n s s' =
+      Asked (EnoughStates (length first)) (s' ≡ s)
       (Asked (EnoughStates (length second)) (RowsOfShare 1 s s')
-      (Asked (EnoughStates (length finishing)) (RowsOfShare 2 s s') (RowsOfShare 5 s s'))))
+      (Asked (EnoughStates (length finishing)) (RowsOfShare 2 s s') (RowsOfShare n s s')))
+
+  -- so for all five, over any store
+  abbrev pub LeftOfShare : List (Term Grade Batches) → List (Term Grade Batches) → Type 0
+  LeftOfShare s s' = Asked (STORE ≤ length s) (s' ≡ s) (LeftByParts 5 s s')

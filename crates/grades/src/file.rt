@@ -4,12 +4,12 @@ ghost use Rattle.diagram.specs.Shown.{records};
 ghost use Rattle.diagram.specs.Store.{Kept};
 ghost use Rattle.grades.specs.Files.{IsModelFile, NodesCollected};
 
-use crate::answers::show;
+use crate::answers::{accepted, show};
 use crate::batches::Batches;
 use crate::grade::Grade;
 use crate::numbered::{grade_numbered, state};
 use crate::share::State;
-use anyhow::bail;
+use anyhow::{anyhow, bail};
 use diagram::limits::STORE;
 use files::limits::ROOM;
 use files::model_file::ModelFile;
@@ -57,10 +57,9 @@ fn show_file(rt: &HostRuntime, bytes: &[u8]) -> anyhow::Result<()>
 {
     let mut store = [state(0, 0)?; STORE];
     let mut room = [state(0, 0)?; ROOM];
-    let mut model = match read::<Grade, Batches>(bytes, &mut store, &mut room) {
-        Ok(model) => model,
-        Err(fault) => bail!("{fault}"),
-    };
+    let mut model = read::<Grade, Batches>(bytes, &mut store, &mut room).map_err(|fault| anyhow!(
+        "{fault}"
+    ))?;
     collect_all(&mut model, &mut store)?;
     let last = usize::from(model.nodes.saturating_sub(1));
     show(rt, &model.diagram, &store, last, grade_numbered(7)?)
@@ -73,8 +72,5 @@ fn collect_all(model: &mut ModelFile<Grade, Batches>, store: &mut [State]) -> an
     ensures nodes { model.new.nodes ≡ model.old.nodes }
     ensures demands { model.new.demands ≡ model.old.demands }
 {
-    match model.diagram.collect_all(store) {
-        Ok(()) => Ok(()),
-        Err(at) => bail!("refused by question {}", at.refusal.number()),
-    }
+    accepted(model.diagram.collect_all(store).map_err(|at| at.refusal))
 }

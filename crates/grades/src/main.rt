@@ -14,11 +14,7 @@ pub mod share;
 pub mod theorems;
 mod words;
 
-fn run(rt: &HostRuntime) -> anyhow::Result<()> {
-    plant::by_calls(rt)?;
-    file::by_file(rt)
-}
-
 fn main(rt: HostRuntime) -> anyhow::Result<()> {
-    run(&rt)
+    plant::by_calls(&rt)?;
+    file::by_file(&rt)
 }

@@ -4,8 +4,8 @@ ghost use Rattle.std.specs.Prelude.{◌≡◌, ◌≤◌, Ok, length};
 ghost use Rattle.diagram.specs.Calls.{Made};
 ghost use Rattle.diagram.specs.Runs.{AnswersRight};
 ghost use Rattle.diagram.specs.Shown.{records};
-ghost use Rattle.grades.specs.Shares.{ShareOf, LeftOfShare};
-ghost use Rattle.grades.specs.Building.{in_order, PartsAdded, LeftByAdding};
+ghost use Rattle.grades.specs.Shares.{ShareOf, LeftByParts, LeftOfShare};
+ghost use Rattle.grades.specs.Building.{in_order, PartsAdded};
 ghost use Rattle.grades.specs.Building.{JoinsParts, WorksOut, LeavesRows};
 
 use crate::batches::Batches;
@@ -72,7 +72,7 @@ pub(crate) fn add_parts(
     requires right { AnswersRight ⟦<Grade as Performance>⟧ ⟦<Batches as Weight>⟧ }
     ensures added { PartsAdded first.now second.now finishing.now
         (length store.old) plant.new store.new result }
-    ensures left { LeftByAdding first.now second.now finishing.now store.old store.new }
+    ensures left { LeftByParts first.now second.now finishing.now 3 store.old store.new }
 {
     Ok(Nodes {
         first: plant.add(store, first)?,

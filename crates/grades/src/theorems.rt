@@ -1,8 +1,8 @@
 //! Which values there are; each theorem is the contract of a function.
 ghost use Rattle.grades.specs.BatchesWeight.{top16, how_many};
-ghost use Rattle.grades.specs.Bounded.{NumbersTo};
 ghost use Rattle.grades.specs.GradeKind.{grade_number};
 ghost use Rattle.kinds.specs.Counting.{CountsTo};
+ghost use Rattle.kinds.specs.Holding.{NumbersTo};
 
 use crate::batches::Batches;
 use kinds::weight::Weight;

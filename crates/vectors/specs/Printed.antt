@@ -1,7 +1,7 @@
 -- What is printed of a model file, and whether that is a report.
 use Rattle.std.specs.Prelude.{◌≡◌, ℕ, Bool, true, false, List, length, Result, Ok, Err}
 use Rattle.files.specs.declared.fault.Fault.{Fault}
-use Rattle.files.specs.Listed.{Analysed}
+use Rattle.files.specs.ByModel.{Analysed}
 use Rattle.files.specs.declared.limits.TheConstants.{LONGEST_REPORT}
 use Rattle.files.specs.Printed.{printed}
 

@@ -9,7 +9,8 @@ mod entries;
 
 use anyhow::bail;
 use entries::Entry;
-use files::analysis::{LONGEST_REPORT, analyse};
+use files::analysis::analyse;
+use files::limits::LONGEST_REPORT;
 use std::io::Read;
 
 // What is printed of the files: reports and faults, so many of each.
@@ -26,10 +27,7 @@ fn printed(rt: &HostRuntime, model: &[u8]) -> anyhow::Result<(bool, String)>
     let mut output = [0u8; LONGEST_REPORT];
     match analyse(model, &mut output) {
         Ok(len) => {
-            let Some(report) = output.get(..len) else {
-                bail!("a report of {len} bytes is longer than the output");
-            };
-            let text = str::from_utf8(report)?;
+            let text = str::from_utf8(&output[..len])?;
             Ok((true, format!(in rt.alloc(); "{text}")?))
         }
         Err(fault) => Ok((false, format!(in rt.alloc(); "{fault}\n")?)),
@@ -37,7 +35,7 @@ fn printed(rt: &HostRuntime, model: &[u8]) -> anyhow::Result<(bool, String)>
 }
 
 // Compares one entry, and answers whether its file has a report.
-fn compare(rt: &HostRuntime, number: usize, entry: Entry<'_>) -> anyhow::Result<bool>
+fn compare_report(rt: &HostRuntime, number: usize, entry: Entry<'_>) -> anyhow::Result<bool>
     ensures { IfOk result (λ reported.
         Prints entry.entry.model.now reported entry.entry.printed.now) }
 {
@@ -65,7 +63,7 @@ fn main(rt: HostRuntime) -> anyhow::Result<()> {
         let Some((entry, after)) = entries::next(rest) else {
             bail!("the vectors end within entry {number}");
         };
-        if compare(&rt, number, entry)? {
+        if compare_report(&rt, number, entry)? {
             tally.reports += 1;
         } else {
             tally.faults += 1;

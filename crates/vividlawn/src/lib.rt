@@ -1,7 +1,7 @@
 //! The library for C; include/vividlawn.h declares it, and says what a host has to see to.
 #![tactic(auto)]
 
-ghost use Rattle.files.specs.Listed.{AnsweredForC};
+ghost use Rattle.files.specs.ByModel.{AnsweredForC};
 
 use files::host::analyse_for_c;
 

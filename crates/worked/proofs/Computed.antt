@@ -17,7 +17,7 @@ use Rattle.terms.specs.Readings.{reading, ReadSame}
 use Rattle.terms.proofs.Equivalence.{equal_distributions, same_itself, same_trans}
 use Rattle.terms.proofs.Redrawing.{in_any_order, replaced}
 use Rattle.worked.specs.Examples.{HasRow, states}
-use Rattle.worked.specs.Plants.{drawn, redrawn}
+use Rattle.worked.specs.Plants.{plant_drawn, plant_redrawn}
 
 -- the lists show the same numbers
 abbrev pub Alike : List (Term Flow Parts) → List (Term Flow Parts) → Type 0
@@ -60,14 +60,14 @@ pub row_by_numbers : (ts r : List (Term Flow Parts)) → numbers (canon flow_kin
 row_by_numbers ts r h = subst (HasRow ts) (numbers_same _ r h) (canon_row flow_laws parts_laws ts)
 
 -- the pumps exchanged, then what stands in series exchanged
-pub redrawn_same : ReadSame flow_kind.ghosts parts_weight.ghosts states drawn states redrawn
+pub redrawn_same : ReadSame flow_kind.ghosts parts_weight.ghosts states plant_drawn states plant_redrawn
 redrawn_same =
     let equality = equal_distributions flow_kind.ghosts parts_weight.ghosts in
     let counts = ordered flow_kind.ghosts in
     let at = λ (n : ℕ). weight_at flow_kind.ghosts parts_weight.ghosts (states n) in
     let pumps = joined Parallel (more (one (part 0)) (part 1)) in
     let exchanged = joined Parallel (more (one (part 1)) (part 0)) in
-    same_trans equality counts (reading at drawn) (reading at (joined Series (more (one (part 2)) pumps))) (reading at redrawn)
+    same_trans equality counts (reading at plant_drawn) (reading at (joined Series (more (one (part 2)) pumps))) (reading at plant_redrawn)
     (in_any_order equality counts at Series refl (more (one pumps) (part 2)) (more (one (part 2)) pumps) (Permᴰ.swap refl refl))
     (replaced equality counts at at Series (one (part 2)) (one (part 2)) pumps exchanged
     (same_itself equality counts (reading at (joined Series (one (part 2)))))

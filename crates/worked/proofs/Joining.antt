@@ -29,7 +29,7 @@ use Rattle.diagram.specs.Runs.{Run, start, AnswersRight}
 use Rattle.diagram.proofs.RunGoesOn.{yes, ok_not_err, ok_same, err_same, given, denied, both_of, apart, the_only, no_one, entry, unused_on, answered, after_adding, after_joining, after_collecting_joined, sums_told}
 use Rattle.diagram.proofs.CollectedSince.{since_now}
 use Rattle.diagram.proofs.Standing.{rows_stand, kept_on, added_kept, added_refused, collected_kept, collecting_refused}
-use Rattle.worked.specs.Two.{ShortRow, OfTwo, RowsOfTwo, LeftOfTwo}
+use Rattle.worked.specs.TwoParts.{ShortRow, OfTwo, RowsOfTwo, LeftOfTwo}
 
 -- a refusal is no answer
 none : {A rest : Type 0} {why : Refusal} {a : A} → ¬ (◌≡◌ {A = Result A Refusal} (Err why) (Ok a) × rest)

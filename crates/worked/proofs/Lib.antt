@@ -7,4 +7,4 @@ pub mod Joining
 pub mod Overhauling
 pub mod PlantFile
 pub mod Collecting
-pub mod Same
+pub mod EqualValues

@@ -25,10 +25,10 @@ use Rattle.diagram.specs.InTurn.{Short}
 use Rattle.diagram.specs.Makings.{drawn, TakesNext}
 use Rattle.files.specs.Reading.{ValidContents}
 use Rattle.files.specs.Analyses.{AnalysedAs}
-use Rattle.files.specs.Listed.{Analysed}
+use Rattle.files.specs.ByModel.{Analysed}
 use Rattle.files.specs.Reports.{report_of, Put}
 use Rattle.files.proofs.Bytes.{FileKind, FileWeighing}
-use Rattle.files.proofs.Known.{known_report}
+use Rattle.files.proofs.KnownContents.{known_report}
 use Rattle.worked.specs.Examples.{flow, pump_a, pump_b, pipe, plant, HasRow, plant_file, plant_report}
 use Rattle.diagram.proofs.RunGoesOn.{yes, both_of, apart, neither, no_one, unused_on}
 use Rattle.worked.proofs.Collecting.{FewEach, few_combinations}

@@ -9,10 +9,8 @@ use Rattle.diagram.specs.declared.table.Table.{Table}
 use Rattle.diagram.specs.Records.{Sound, size_at}
 use Rattle.diagram.specs.Store.{row_at, places_of}
 use Rattle.diagram.specs.Calls.{TellsTerm}
+use Rattle.diagram.proofs.Collected.{width}
 use Rattle.diagram.proofs.RunGoesOn.{ok_not_err}
-
-width : (k : ℕ) → TERMS * k + TERMS - TERMS * k ≡ TERMS
-width k = omega arith
 
 -- a node has so many places
 room : {T : Type 0} (k : ℕ) (s : List T) → k < NODES → STORE ≤ length s → length (places_of k s) ≡ TERMS

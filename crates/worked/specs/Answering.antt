@@ -10,8 +10,8 @@ use Rattle.diagram.specs.declared.refusal.Refusal.{Refusal}
 use Rattle.diagram.specs.declared.table.Table.{Table}
 use Rattle.diagram.specs.Calls.{Asks}
 use Rattle.diagram.specs.Store.{row_at}
-use Rattle.worked.specs.declared.answers.Answers.{Answers}
-use Rattle.worked.specs.declared.answers.Row.{Row}
+use Rattle.worked.specs.declared.answers.RowAndNeeds.{RowAndNeeds}
+use Rattle.worked.specs.declared.answers.CopiedRow.{CopiedRow}
 use Rattle.worked.specs.declared.lines.Need.{Need}
 use Rattle.worked.specs.Lines.{need_text, demand_text}
 
@@ -19,13 +19,13 @@ abbrev pub need_of : Flow → List (Term Flow Parts) → Need
 need_of demand row = record { demand = demand; met = met_of flow_kind.ghosts parts_weight.ghosts demand row; all = total_of parts_weight.ghosts row }
 
 -- this row, and its needs of 3, of 4 and of 5
-abbrev pub AnswersOf : List (Term Flow Parts) → Answers → Type 0
+abbrev pub AnswersOf : List (Term Flow Parts) → RowAndNeeds → Type 0
 AnswersOf row a = (take a.row.len a.row.terms ≡ row) × (a.three ≡ need_of (capped_word 3) row) × (a.four ≡ need_of (capped_word 4) row) × (a.five ≡ need_of (capped_word 5) row)
 
 module _ (t : Table) (s : List (Term Flow Parts)) (k : ℕ) where
   -- the row of node k, what of it meets a demand and how much there is, the words for both, and all answers
 
-  abbrev pub HoldsRow : Row → Type 0
+  abbrev pub HoldsRow : CopiedRow → Type 0
   HoldsRow r = take r.len r.terms ≡ row_at t s k
 
   abbrev pub IsMet : Flow → Need → Type 0
@@ -37,18 +37,18 @@ module _ (t : Table) (s : List (Term Flow Parts)) (k : ℕ) where
   abbrev pub HasText : Flow → Need → Type 0
   HasText demand n = need_text n.demand n.met n.all ≡ demand_text demand (row_at t s k)
 
-  abbrev pub AreAnswers : Answers → Type 0
+  abbrev pub AreAnswers : RowAndNeeds → Type 0
   AreAnswers = AnswersOf (row_at t s k)
 
   -- what node k of a diagram with these records says of its row, after the questions that are put before it
   abbrev OrRefusal : {A : Type 0} → (List (Term Flow Parts) → A → Type 0) → Result A Refusal → Type 0
   OrRefusal says r = Asks flow_kind.ghosts parts_weight.ghosts t s k r (IsOkAnd r (says (row_at t s k)))
 
-  abbrev pub RowOrRefusal : Result Row Refusal → Type 0
+  abbrev pub RowOrRefusal : Result CopiedRow Refusal → Type 0
   RowOrRefusal = OrRefusal (λ row r. take r.len r.terms ≡ row)
 
   abbrev pub NeedOrRefusal : Flow → Result Need Refusal → Type 0
   NeedOrRefusal demand = OrRefusal (λ row n. n ≡ need_of demand row)
 
-  abbrev pub AnswersOrRefusal : Result Answers Refusal → Type 0
+  abbrev pub AnswersOrRefusal : Result RowAndNeeds Refusal → Type 0
   AnswersOrRefusal = OrRefusal AnswersOf

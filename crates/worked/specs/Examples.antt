@@ -32,12 +32,12 @@ use Rattle.diagram.specs.RightAnswers.{RightAnswer, RowOfNode}
 use Rattle.files.specs.declared.limits.TheConstants.{LOOKED_AT}
 use Rattle.files.specs.declared.fault.Fault.{Fault}
 use Rattle.files.specs.declared.fault.Fault.TheVariants.{Model, Room}
-use Rattle.diagram.specs.Makings.{drawn as made_by}
+use Rattle.diagram.specs.Makings.{drawn}
 use Rattle.files.specs.Faults.{fault_text}
-use Rattle.files.specs.Listed.{Analysed, AnsweredForC}
-use Rattle.files.specs.Printed.{Answers}
+use Rattle.files.specs.ByModel.{Analysed, AnsweredForC}
+use Rattle.files.specs.Printed.{PrintsAnswer}
 use Rattle.files.specs.Reports.{Unreported, Put}
-use Rattle.worked.specs.Plants.{drawn, redrawn}
+use Rattle.worked.specs.Plants.{plant_drawn, plant_redrawn}
 
 -- the value of a number; no number below is past the top
 abbrev pub flow : ℕ → Flow
@@ -147,11 +147,11 @@ three_joined a b c = joined_from Parallel (0 ∷ 1 ∷ 2 ∷ []) ∷ added c ∷
 
 -- after these nodes are made, r is the right answer to the collecting of node k
 abbrev pub Collecting : List (Making Flow Parts) → ℕ → Reply Flow Parts → Type 0
-Collecting nodes k r = RightAnswer flow_kind.ghosts parts_weight.ghosts (made_by nodes) r (collecting k)
+Collecting nodes k r = RightAnswer flow_kind.ghosts parts_weight.ghosts (drawn nodes) r (collecting k)
 
 -- after these nodes are made, this is the row of node k
 abbrev pub NodeRow : List (Making Flow Parts) → ℕ → List (Term Flow Parts) → Type 0
-NodeRow nodes k row = RowOfNode flow_kind.ghosts parts_weight.ghosts (made_by nodes) k row
+NodeRow nodes k row = RowOfNode flow_kind.ghosts parts_weight.ghosts (drawn nodes) k row
 
 -- a flow as a model file writes it, and a state
 abbrev rate_bytes : ℕ → List ℕ
@@ -217,9 +217,9 @@ pub record Examples : Type 0 where
 
 -- what follows for the plant drawn two ways, and for drawings of other kinds
 pub record DrawnExamples : Type 0 where
-  pub plant_by_enumeration : HasRow (combinations_of drawn) plant
-  pub redrawn_by_enumeration : HasRow (combinations_of redrawn) plant
-  pub redrawn_reads_the_same : ReadSame flow_kind.ghosts parts_weight.ghosts states drawn states redrawn
+  pub plant_by_enumeration : HasRow (combinations_of plant_drawn) plant
+  pub redrawn_by_enumeration : HasRow (combinations_of plant_redrawn) plant
+  pub redrawn_reads_the_same : ReadSame flow_kind.ghosts parts_weight.ghosts states plant_drawn states plant_redrawn
   pub one_pump_at_two_places : HasRow (combinations_of twice) (0 at 1 ∷ 6 at 9 ∷ [])
   pub a_combination_of_a_bridge :
       performance_of delay_kind.ghosts (bridge (part 0) (part 1) (part 2) (part 3) (part 4))
@@ -258,9 +258,9 @@ pub record FileExamples : Type 0 where
       Analysed plant_file out r out' ↔ ((r ≡ Ok 99) × (out' ≡ plant_report ++ drop 99 out))
   pub plant_in_a_short_output :
       (out : List ℕ) (r : Result ℕ Fault) (out' : List ℕ) → length out < 99 → Analysed plant_file out r out' ↔ ((r ≡ Err Room) × (out' ≡ out))
-  pub plant_printed : (old new : Option (List ℕ)) → Answers (take LOOKED_AT plant_file) old new ↔ Appends old new plant_report
+  pub plant_printed : (old new : Option (List ℕ)) → PrintsAnswer (take LOOKED_AT plant_file) old new ↔ Appends old new plant_report
   pub unlisted : (out : List ℕ) (r : Result ℕ Fault) (out' : List ℕ) → Analysed unlisted_file out r out' ↔ Unreported out r out' Model
   pub unlisted_text : fault_text Model ≡ codes "fault 1 255 21"
-  pub unlisted_printed : (old new : Option (List ℕ)) → Answers (take LOOKED_AT unlisted_file) old new ↔ Appends old new (line "fault 1 255 21")
+  pub unlisted_printed : (old new : Option (List ℕ)) → PrintsAnswer (take LOOKED_AT unlisted_file) old new ↔ Appends old new (line "fault 1 255 21")
   pub unlisted_for_c :
       (out : List ℕ) (answer : ℤ) (out' : List ℕ) → AnsweredForC unlisted_file out answer out' ↔ ((answer ≡ neg_ℤ (pos 130837)) × (out' ≡ out))

@@ -10,23 +10,24 @@ use Rattle.diagram.specs.declared.limits.TheConstants.{STORE}
 use Rattle.diagram.specs.declared.refusal.Refusal.{Refusal}
 use Rattle.diagram.specs.declared.table.Table.{Table}
 use Rattle.diagram.specs.Calls.{Restated, Collected}
+use Rattle.diagram.specs.InTurn.{BothCollected}
 use Rattle.diagram.specs.Shown.{records}
 use Rattle.diagram.specs.Store.{row_at}
-use Rattle.worked.specs.declared.answers.Answers.{Answers}
+use Rattle.worked.specs.declared.answers.RowAndNeeds.{RowAndNeeds}
 use Rattle.worked.specs.declared.plant.Drawn.{Drawn}
 use Rattle.worked.specs.declared.plant.Plant.{Plant}
 use Rattle.worked.specs.Answering.{AnswersOf}
 use Rattle.worked.specs.Examples.{◌at◌}
-use Rattle.worked.specs.Plants.{RowAsDrawn, DrawnOf, BothCollected, drawn, redrawn}
-use Rattle.worked.specs.Two.{OfTwo}
+use Rattle.worked.specs.Plants.{RowAsDrawn, DrawnOf, plant_drawn, plant_redrawn}
+use Rattle.worked.specs.TwoParts.{OfTwo}
 
 -- so answers the whole plant in this diagram
-abbrev pub PlantAnswers : Drawn Flow → List (Term Flow Parts) → Answers → Type 0
+abbrev pub PlantAnswers : Drawn Flow → List (Term Flow Parts) → RowAndNeeds → Type 0
 PlantAnswers d store = AnswersOf (row_at (records d.diagram) store d.nodes.plant)
 
 -- so answers the plant drawn the other way round, by the row of all its combinations
-abbrev pub RedrawnAnswers : Plant Flow → Answers → Type 0
-RedrawnAnswers p a = (row : List (Term Flow Parts)) × RowAsDrawn flow_kind.ghosts p redrawn row × AnswersOf row a
+abbrev pub RedrawnAnswers : Plant Flow → RowAndNeeds → Type 0
+RedrawnAnswers p a = (row : List (Term Flow Parts)) × RowAsDrawn flow_kind.ghosts p plant_redrawn row × AnswersOf row a
 
 -- what of the pumps in parallel meets a need of 3
 abbrev pub PumpsAlone : Plant Flow → Result (Parts × Parts) Refusal → Type 0
@@ -39,7 +40,7 @@ new_pump_a = 0 at 1 ∷ 5 at 9 ∷ []
 -- where the plant was drawn, its row is afterwards that of all the combinations of its parts, with the new pump A
 abbrev pub Overhauled : Drawn Flow → List (Term Flow Parts) → Drawn Flow → List (Term Flow Parts) → Type 0
 Overhauled d s d' s' =
-    (p : Plant Flow) → DrawnOf flow_kind.ghosts p drawn d s → RowAsDrawn flow_kind.ghosts (record p { pump_a = new_pump_a }) drawn (row_at (records d'.diagram) s' d'.nodes.plant)
+    (p : Plant Flow) → DrawnOf flow_kind.ghosts p plant_drawn d s → RowAsDrawn flow_kind.ghosts (record p { pump_a = new_pump_a }) plant_drawn (row_at (records d'.diagram) s' d'.nodes.plant)
 
 -- the calls of an overhaul: pump A has new states; a collecting of the plant is refused then, and after it the pumps and the plant are collected
 pub record OverhaulCalls (d : Drawn Flow) (s : List (Term Flow Parts)) (d' : Drawn Flow) (s' : List (Term Flow Parts)) : Type 0 where
@@ -51,4 +52,4 @@ pub record OverhaulCalls (d : Drawn Flow) (s : List (Term Flow Parts)) (d' : Dra
   pub as_stale : Table
   pub kept : List (Term Flow Parts)
   pub early : Collected flow_kind.ghosts parts_weight.ghosts stale left d.nodes.plant (Err why) as_stale kept
-  pub again : BothCollected flow_kind.ghosts as_stale kept d.nodes.pumps d.nodes.plant (records d'.diagram) s'
+  pub again : BothCollected flow_kind.ghosts parts_weight.ghosts as_stale kept d.nodes.pumps d.nodes.plant (records d'.diagram) s'

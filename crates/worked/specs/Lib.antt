@@ -5,4 +5,4 @@ pub mod Flows
 pub mod Lines
 pub mod Plants
 pub mod Refusals
-pub mod Two
+pub mod TwoParts

@@ -1,5 +1,5 @@
 -- The plant as drawings, and what is worked out for it.
-use Rattle.std.specs.Prelude.{◌≡◌, ℕ, ◌<◌, ◌≤◌, ◌⊎◌, List, length, Result, Ok, Err}
+use Rattle.std.specs.Prelude.{◌≡◌, ℕ, ◌<◌, ◌≤◌, List, length, Result}
 use Rattle.kinds.specs.Named.{Parts}
 use Rattle.kinds.specs.declared.performance.Performance
 use Rattle.kinds.specs.contracts.parts.PartsWeight.TheImpl as parts_weight
@@ -10,11 +10,10 @@ use Rattle.terms.specs.Drawings.{Drawing, part, joined, one, more}
 use Rattle.terms.specs.Enumeration.{but, enumeration}
 use Rattle.diagram.specs.declared.limits.TheConstants.{STORE}
 use Rattle.diagram.specs.declared.refusal.Refusal.{Refusal}
-use Rattle.diagram.specs.declared.table.Table.{Table}
-use Rattle.diagram.specs.declared.diagram.Diagram.{Diagram}
 use Rattle.diagram.specs.Refusals.{Asked}
-use Rattle.diagram.specs.Calls.{Restated, Collected}
+use Rattle.diagram.specs.Calls.{Restated}
 use Rattle.diagram.specs.Histories.{History, made, drawing_of, states_of, Answers}
+use Rattle.diagram.specs.InTurn.{BothCollected, OneRefused}
 use Rattle.diagram.specs.Runs.{Run}
 use Rattle.diagram.specs.Shown.{records}
 use Rattle.diagram.specs.Standing.{RowsStand}
@@ -30,22 +29,22 @@ states p = but 0 p.pump_a (but 1 p.pump_b (λ _. p.pipe))
 abbrev pub pumps_drawn : Drawing
 pumps_drawn = joined Parallel (more (one (part 0)) (part 1))
 
-abbrev pub drawn : Drawing
-drawn = joined Series (more (one pumps_drawn) (part 2))
+abbrev pub plant_drawn : Drawing
+plant_drawn = joined Series (more (one pumps_drawn) (part 2))
 
 -- drawn the other way round: the pipe first, then the pumps, exchanged
-abbrev pub redrawn : Drawing
-redrawn = joined Series (more (one (part 2)) (joined Parallel (more (one (part 1)) (part 0))))
-
 abbrev pub pumps_redrawn : Drawing
 pumps_redrawn = joined Parallel (more (one (part 1)) (part 0))
 
+abbrev pub plant_redrawn : Drawing
+plant_redrawn = joined Series (more (one (part 2)) pumps_redrawn)
+
 -- the drawing of each node
 abbrev pub each_drawn : ℕ → Drawing
-each_drawn = but 3 pumps_drawn (but 4 drawn part)
+each_drawn = but 3 pumps_drawn (but 4 plant_drawn part)
 
 abbrev pub each_redrawn : ℕ → Drawing
-each_redrawn = but 3 pumps_redrawn (but 4 redrawn part)
+each_redrawn = but 3 pumps_redrawn (but 4 plant_redrawn part)
 
 -- the nodes in the order in which they are made
 abbrev pub in_order : Nodes
@@ -68,19 +67,6 @@ module _ {P : Type 0} (kind : Performance.Ghosts P) where
     pub pump_b : states_of calls 1 ≡ p.pump_b
     pub pipe : states_of calls 2 ≡ p.pipe
 
-  -- two nodes are collected, one after the other
-  abbrev pub BothCollected : Table → List (Term P Parts) → ℕ → ℕ → Table → List (Term P Parts) → Type 0
-  BothCollected t s first second t' s' =
-      (between : Diagram P Parts) × (left : List (Term P Parts)) × (m : ℕ) × (n : ℕ) ×
-      Collected kind parts_weight.ghosts t s first (Ok m) (records between) left × Collected kind parts_weight.ghosts (records between) left second (Ok n) t' s'
-
-  -- the first of two nodes is refused, or the second once the first is collected
-  abbrev pub OneRefused : Table → List (Term P Parts) → ℕ → ℕ → Refusal → Table → List (Term P Parts) → Type 0
-  OneRefused t s first second why t' s' =
-      Collected kind parts_weight.ghosts t s first (Err why) t' s' ⊎
-      ((between : Diagram P Parts) × (left : List (Term P Parts)) × (m : ℕ) ×
-      Collected kind parts_weight.ghosts t s first (Ok m) (records between) left × Collected kind parts_weight.ghosts (records between) left second (Err why) t' s')
-
   -- the plant's node has this row
   abbrev pub PlantRow : Plant P → Drawing → List (Term P Parts) → Drawn P → Type 0
   PlantRow p so s d = RowAsDrawn p so (row_at (records d.diagram) s d.nodes.plant)
@@ -91,10 +77,10 @@ module _ {P : Type 0} (kind : Performance.Ghosts P) where
     PumpRestated states r = Restated kind parts_weight.ghosts (records d.diagram) s d.nodes.pump_a states r (records d'.diagram) s'
 
     abbrev pub PlantCollected : Type 0
-    PlantCollected = BothCollected (records d.diagram) s d.nodes.pumps d.nodes.plant (records d'.diagram) s'
+    PlantCollected = BothCollected kind parts_weight.ghosts (records d.diagram) s d.nodes.pumps d.nodes.plant (records d'.diagram) s'
 
     abbrev pub PlantRefused : Refusal → Type 0
-    PlantRefused why = OneRefused (records d.diagram) s d.nodes.pumps d.nodes.plant why (records d'.diagram) s'
+    PlantRefused why = OneRefused kind parts_weight.ghosts (records d.diagram) s d.nodes.pumps d.nodes.plant why (records d'.diagram) s'
 
   -- The plant's five nodes, so drawn, have their rows in their places. Nothing else has changed but the working rows and the rest of these places.
   abbrev pub RowsOfPlant : Plant P → (ℕ → Drawing) → List (Term P Parts) → List (Term P Parts) → Type 0

@@ -13,13 +13,13 @@ use terms::term::Term;
 
 /// A row copied out of a diagram.
 #[derive(Clone, Copy, PartialEq, Eq)]
-pub struct Row {
+pub struct CopiedRow {
     terms: [Term<Flow, Parts>; TERMS],
     len: usize,
     ghost fits: { len ≤ TERMS },
 }
 
-impl Row {
+impl CopiedRow {
     ghost use Rattle.worked.specs.Answering.{HoldsRow, RowOrRefusal};
 
     /// The row of node k, asked term by term. It is refused as a question about the node is.
@@ -27,7 +27,7 @@ impl Row {
         diagram: &Diagram<Flow, Parts>,
         store: &[Term<Flow, Parts>],
         k: usize,
-    ) -> Result<Row, Refusal>
+    ) -> Result<CopiedRow, Refusal>
         ensures row { IfOk result (HoldsRow (records diagram.now) store.now k) }
         ensures refusals { RowOrRefusal (records diagram.now) store.now k result }
     {
@@ -36,7 +36,7 @@ impl Row {
         for i in 0..len {
             terms[i] = diagram.term(store, k, i)?;
         }
-        Ok(Row { terms, len })
+        Ok(CopiedRow { terms, len })
     }
 
     /// The terms, in their order.
@@ -49,14 +49,18 @@ impl Row {
 
 /// The row of a node, and what of it meets a need of 3, of 4 and of 5.
 #[derive(Clone, Copy, PartialEq, Eq)]
-pub struct Answers {
-    pub row: Row,
+pub struct RowAndNeeds {
+    /// The row of the node.
+    pub row: CopiedRow,
+    /// What meets a need of 3.
     pub three: Need,
+    /// What meets a need of 4.
     pub four: Need,
+    /// What meets a need of 5.
     pub five: Need,
 }
 
-impl Answers {
+impl RowAndNeeds {
     ghost use Rattle.worked.specs.Answering.{AreAnswers, AnswersOrRefusal};
 
     /// What node k answers. It is refused as a question about the node is.
@@ -64,12 +68,12 @@ impl Answers {
         diagram: &Diagram<Flow, Parts>,
         store: &[Term<Flow, Parts>],
         k: usize,
-    ) -> Result<Answers, Refusal>
+    ) -> Result<RowAndNeeds, Refusal>
         ensures answers { IfOk result (AreAnswers (records diagram.now) store.now k) }
         ensures refusals { AnswersOrRefusal (records diagram.now) store.now k result }
     {
-        Ok(Answers {
-            row: Row::of(diagram, store, k)?,
+        Ok(RowAndNeeds {
+            row: CopiedRow::of(diagram, store, k)?,
             three: Need::of(Flow::new(3), diagram, store, k)?,
             four: Need::of(Flow::new(4), diagram, store, k)?,
             five: Need::of(Flow::new(5), diagram, store, k)?,

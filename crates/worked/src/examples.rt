@@ -2,27 +2,28 @@
 ghost use Rattle.worked.specs.Examples.{Examples, DrawnExamples, CountedExamples};
 ghost use Rattle.worked.specs.Examples.{LongExamples, FileExamples};
 
-/// Every worked value follows from the definitions.
+/// Every worked value of kinds, weights and rows follows from the definitions.
 pub fn examples_hold()
     ensures { Examples }
 {}
 
-/// So does every worked value of drawings.
+/// Every worked value of drawings follows from the definitions.
 pub fn drawn_examples_hold()
     ensures { DrawnExamples }
 {}
 
-/// So does every worked value of counts that stop at a top.
+/// Every worked value of counts that stop at a top follows from the definitions.
 pub fn counted_examples_hold()
     ensures { CountedExamples }
 {}
 
-/// So does every worked value of rows that are as long as may be, or longer.
+/// Every worked value of rows that are as long as may be, or longer, follows from the
+/// definitions.
 pub fn long_examples_hold()
     ensures { LongExamples }
 {}
 
-/// So does every worked value of model files.
+/// Every worked value of model files follows from the definitions.
 pub fn file_examples_hold()
     ensures { FileExamples }
 {}

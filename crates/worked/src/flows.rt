@@ -5,7 +5,7 @@ ghost use Rattle.worked.specs.Examples.{pump_a, pump_b, pipe};
 ghost use Rattle.worked.specs.Flows.{PlantAnswers, RedrawnAnswers, PumpsAlone};
 ghost use Rattle.worked.specs.Flows.{Overhauled, OverhaulCalls};
 
-use crate::answers::{Answers, Row};
+use crate::answers::{CopiedRow, RowAndNeeds};
 use crate::lines::Line;
 use crate::plant::{Drawn, Plant, state};
 use crate::refusals::{accepted, refused};
@@ -38,7 +38,7 @@ pub(crate) fn flow_plant(rt: &HostRuntime) -> anyhow::Result<()> {
     rt.println("Worked out:")?;
     let answers = show_answers(rt, &drawn, &store)?;
     pumps_at_once(rt, &parts)?;
-    compare(rt, &answers, &second_drawing(rt, &parts)?)?;
+    compare_drawings(rt, &answers, &second_drawing(rt, &parts)?)?;
     overhaul(rt, &mut drawn, &mut store)?;
     refused_calls(rt, &mut drawn, &store)
 }
@@ -52,13 +52,23 @@ fn show_parts(rt: &HostRuntime, parts: &Plant<Flow>) -> anyhow::Result<()> {
 }
 
 // Prints what the pumps and the plant answer, and answers what the plant does.
-fn show_answers(rt: &HostRuntime, drawn: &Drawn<Flow>, store: &[State]) -> anyhow::Result<Answers>
+fn show_answers(
+    rt: &HostRuntime,
+    drawn: &Drawn<Flow>,
+    store: &[State],
+) -> anyhow::Result<RowAndNeeds>
     ensures { IfOk result (PlantAnswers drawn.now store.now) }
 {
     let (diagram, nodes) = (&drawn.diagram, drawn.nodes);
-    let pumps = accepted(Row::of(diagram, store, nodes.pumps), "asking the pumps")?;
+    let pumps = accepted(
+        CopiedRow::of(diagram, store, nodes.pumps),
+        "asking the pumps",
+    )?;
     rt.println(Line::new("both pumps", pumps.terms()))?;
-    let plant = accepted(Answers::of(diagram, store, nodes.plant), "asking the plant")?;
+    let plant = accepted(
+        RowAndNeeds::of(diagram, store, nodes.plant),
+        "asking the plant",
+    )?;
     rt.println(Line::new("the plant ", plant.row.terms()))?;
     rt.println(plant.three)?;
     rt.println(plant.four)?;
@@ -82,7 +92,7 @@ fn pumps_at_once(rt: &HostRuntime, parts: &Plant<Flow>) -> anyhow::Result<()> {
 }
 
 // The plant drawn the other way round, in a diagram and a store of its own; answers what it does.
-fn second_drawing(rt: &HostRuntime, parts: &Plant<Flow>) -> anyhow::Result<Answers>
+fn second_drawing(rt: &HostRuntime, parts: &Plant<Flow>) -> anyhow::Result<RowAndNeeds>
     ensures { IfOk result (RedrawnAnswers parts.now) }
 {
     let mut store = [state(0, 0); STORE];
@@ -91,7 +101,11 @@ fn second_drawing(rt: &HostRuntime, parts: &Plant<Flow>) -> anyhow::Result<Answe
     show_answers(rt, &drawn, &store)
 }
 
-fn compare(rt: &HostRuntime, first: &Answers, second: &Answers) -> anyhow::Result<()>
+fn compare_drawings(
+    rt: &HostRuntime,
+    first: &RowAndNeeds,
+    second: &RowAndNeeds,
+) -> anyhow::Result<()>
     ensures { IfOk result (λ _. second.now ≡ first.now) }
 {
     ensure!(*second == *first, "the second drawing answers otherwise");

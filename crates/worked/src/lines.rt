@@ -49,7 +49,8 @@ pub struct Need {
 impl Need {
     ghost use Rattle.worked.specs.Answering.{IsMet, IsTotal, HasText, NeedOrRefusal};
 
-    /// As node k of the diagram answers it. It is refused as a question about the node is.
+    /// What of node k meets this demand, as the diagram answers. It is refused as a question about
+    /// the node is.
     pub fn of(
         demand: Flow,
         diagram: &Diagram<Flow, Parts>,

@@ -33,11 +33,7 @@ fn binary_plant(rt: &HostRuntime) -> anyhow::Result<()> {
     Ok(())
 }
 
-fn run(rt: &HostRuntime) -> anyhow::Result<()> {
-    flows::flow_plant(rt)?;
-    binary_plant(rt)
-}
-
 fn main(rt: HostRuntime) -> anyhow::Result<()> {
-    run(&rt)
+    flows::flow_plant(&rt)?;
+    binary_plant(&rt)
 }

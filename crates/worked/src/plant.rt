@@ -12,25 +12,35 @@ use terms::term::{Term, Way};
 /// The states of two pumps and a pipe.
 #[derive(Drop)]
 pub struct Plant<P> {
+    /// The states of pump A.
     pub pump_a: [Term<P, Parts>; 2],
+    /// The states of pump B.
     pub pump_b: [Term<P, Parts>; 2],
+    /// The states of the pipe.
     pub pipe: [Term<P, Parts>; 2],
 }
 
 /// The numbers of the plant's nodes: its parts, both pumps, and the whole.
 #[derive(Clone, Copy)]
 pub struct Nodes {
+    /// Pump A.
     pub pump_a: usize,
+    /// Pump B.
     pub pump_b: usize,
+    /// The pipe.
     pub pipe: usize,
+    /// Both pumps in parallel.
     pub pumps: usize,
+    /// The whole plant.
     pub plant: usize,
 }
 
 /// The plant in a diagram.
 #[derive(Drop)]
 pub struct Drawn<P> {
+    /// What the calls have made.
     pub diagram: Diagram<P, Parts>,
+    /// Which node is which.
     pub nodes: Nodes,
 }
 
@@ -56,14 +66,14 @@ pub fn state(rate: u32, count: u32) -> Term<Flow, Parts>
 impl<P: Performance> Plant<P> {
     ghost use Rattle.std.specs.Prelude.{IfOk};
     ghost use Rattle.worked.specs.Plants.{DrawnOf, PlantRow, LeftByDrawing, in_order};
-    ghost use Rattle.worked.specs.Plants.{drawn, redrawn, each_drawn, each_redrawn};
+    ghost use Rattle.worked.specs.Plants.{plant_drawn, plant_redrawn, each_drawn, each_redrawn};
 
     /// Draws the plant and works it out: the pumps in parallel, then the pipe in series.
     /// A store of fewer than `STORE` terms is refused.
     pub fn draw(&self, store: &mut [Term<P, Parts>]) -> Result<Drawn<P>, Refusal>
-        ensures calls { IfOk result (λ d. DrawnOf P.Performance self.now drawn d store.new) }
+        ensures calls { IfOk result (λ d. DrawnOf P.Performance self.now plant_drawn d store.new) }
         ensures nodes { IfOk result (λ d. d.nodes ≡ in_order) }
-        ensures row { IfOk result (PlantRow P.Performance self.now drawn store.new) }
+        ensures row { IfOk result (PlantRow P.Performance self.now plant_drawn store.new) }
         ensures left { LeftByDrawing P.Performance self.now each_drawn store.old store.new }
     {
         let mut diagram = Diagram::new(store)?;
@@ -84,11 +94,13 @@ impl<P: Performance> Plant<P> {
         Ok(Drawn { diagram, nodes })
     }
 
-    /// The same the other way round: the pipe, then the pumps, exchanged.
+    /// Draws the plant the other way round and works it out: the pipe, then the pumps, exchanged.
+    /// A store of fewer than `STORE` terms is refused.
     pub fn redraw(&self, store: &mut [Term<P, Parts>]) -> Result<Drawn<P>, Refusal>
-        ensures calls { IfOk result (λ d. DrawnOf P.Performance self.now redrawn d store.new) }
+        ensures calls { IfOk result (λ d.
+            DrawnOf P.Performance self.now plant_redrawn d store.new) }
         ensures nodes { IfOk result (λ d. d.nodes ≡ in_order) }
-        ensures row { IfOk result (PlantRow P.Performance self.now redrawn store.new) }
+        ensures row { IfOk result (PlantRow P.Performance self.now plant_redrawn store.new) }
         ensures left { LeftByDrawing P.Performance self.now each_redrawn store.old store.new }
     {
         let mut diagram = Diagram::new(store)?;

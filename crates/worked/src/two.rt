@@ -4,7 +4,7 @@ ghost use Rattle.std.specs.Prelude.{Ok, length};
 ghost use Rattle.diagram.specs.Shown.{records};
 ghost use Rattle.diagram.specs.Calls.{Made};
 ghost use Rattle.diagram.specs.Runs.{AnswersRight};
-ghost use Rattle.worked.specs.Two.{OfTwo, LeftOfTwo};
+ghost use Rattle.worked.specs.TwoParts.{OfTwo, LeftOfTwo};
 
 use diagram::diagram::Diagram;
 use diagram::refusal::Refusal;

@@ -18,5 +18,5 @@ returns g c =
       | in-None w ↦ inr (ap (λ (x : Bor (List ℕ) × ℕ). x.0.now) w.len-is, ap (λ (x : Bor (List ℕ) × ℕ). x.1) w.len-is)
     ] in
     line_played g.P.Written g.P.Performance c.args.line.now c.in-Some.asked.now c.in-Some.wanted.now c.match-strip_prefix.len.0.now (string_bytes c.in_ok-said.said) c.match-strip_prefix.len.1
-    c.args.diagram.now c.call.new.diagram c.args.store.now c.call.new.store _ c.compare.result cut lent c.if-store-len.false c.in_ok-said.ensures (let long = simp length-take at c.call.auto.store in omega (arith, long, c.if-store-len.false)) refl
-    (subst (λ (z : List ℕ). IfOk c.compare.result (λ x. z ≡ c.in-Some.wanted.now)) c.as_str.ensures.value c.compare.ensures)
+    c.args.diagram.now c.call.new.diagram c.args.store.now c.call.new.store _ c.compare_answer.result cut lent c.if-store-len.false c.in_ok-said.ensures (let long = simp length-take at c.call.auto.store in omega (arith, long, c.if-store-len.false)) refl
+    (subst (λ (z : List ℕ). IfOk c.compare_answer.result (λ x. z ≡ c.in-Some.wanted.now)) c.as_str.ensures.value c.compare_answer.ensures)

@@ -1,6 +1,6 @@
 use Rattle.std.proofs.Common.{refl, sym, Ok}
 use Rattle.diagram.proofs.RunGoesOn.{ok_not_err, ok_same}
-use Rattle.grades.proofs.Working.{lines_joined, whole_joined}
+use Rattle.grades.proofs.Building.{lines_joined, whole_joined}
 use Rattle.grades.proofs.share.join_parts.Goals as goal
 
 pub returns-in_err-lines : goal.returns-in_err-lines

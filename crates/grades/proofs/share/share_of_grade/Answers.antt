@@ -7,7 +7,7 @@ use Rattle.grades.specs.contracts.batches_weight.BatchesWeight.TheImpl.{ghosts a
 use Rattle.grades.specs.Building.{parts_made}
 use Rattle.diagram.proofs.RunGoesOn.{yes, given, granted, ok_same, ok_not_err}
 use Rattle.grades.proofs.Leaving.{rows_on, after_three}
-use Rattle.grades.proofs.Working.{whole_told}
+use Rattle.grades.proofs.Building.{whole_told}
 use Rattle.grades.proofs.share.share_of_grade.Goals as goal
 
 pub returns-clause-answer : goal.returns-clause-answer

@@ -11,7 +11,7 @@ use Rattle.grades.specs.declared.share.Joined.{Joined}
 use Rattle.grades.specs.Building.{parts_made}
 use Rattle.diagram.proofs.RunGoesOn.{ok_not_err, ok_same}
 use Rattle.grades.proofs.Leaving.{all_left}
-use Rattle.grades.proofs.Working.{lines_collected, whole_collected}
+use Rattle.grades.proofs.Building.{lines_collected, whole_collected}
 use Rattle.grades.proofs.share.work_out.Goals as goal
 
 abbrev Terms : Type 0

@@ -5,10 +5,10 @@ use Rattle.files.specs.declared.limits.TheConstants.{LONGEST_REPORT}
 use Rattle.files.specs.declared.fault.Fault.{Fault}
 use Rattle.files.specs.declared.fault.Fault.TheVariants.{Model, Room}
 use Rattle.files.specs.Faults.{fault_text, answer_for_c}
-use Rattle.files.specs.Listed.{Listed, Analysed}
-use Rattle.files.specs.Printed.{Answers}
+use Rattle.files.specs.ByModel.{Listed, Analysed}
+use Rattle.files.specs.Printed.{PrintsAnswer}
 use Rattle.files.specs.Reports.{Unreported, Put}
-use Rattle.files.proofs.Known.{report_printed, fault_printed}
+use Rattle.files.proofs.KnownContents.{report_printed, fault_printed}
 use Rattle.worked.specs.Examples.{plant_file, plant_report, unlisted_file}
 use Rattle.diagram.proofs.RunGoesOn.{yes, granted}
 use Rattle.worked.proofs.PlantFile.{plant_reported}
@@ -55,7 +55,7 @@ returns c = record {
   plant_printed = λ old new. let few : 99 ≤ LONGEST_REPORT = omega arith in report_printed plant_file old new plant_report few plant_reported;
   unlisted = unlisted;
   unlisted_text = unlisted_text;
-  unlisted_printed = λ old new. subst (λ text. Answers unlisted_file old new ↔ Appends old new (text ++ 10 ∷ [])) unlisted_text (fault_printed unlisted_file old new Model unlisted);
+  unlisted_printed = λ old new. subst (λ text. PrintsAnswer unlisted_file old new ↔ Appends old new (text ++ 10 ∷ [])) unlisted_text (fault_printed unlisted_file old new Model unlisted);
   unlisted_for_c = λ out answer out'. (
     λ x. let gone = (unlisted out x.0 out').0 x.1 in (x.2 ∙ ap answer_for_c gone.answer, gone.output),
     λ x. (Err Model, (unlisted out (Err Model) out').1 (record { answer = refl; output = x.1 }), x.0),

@@ -4,7 +4,7 @@ use Rattle.kinds.specs.contracts.flow.FlowPerformance.TheImpl as flow_kind
 use Rattle.kinds.specs.contracts.parts.PartsWeight.TheImpl as parts_weight
 use Rattle.terms.specs.declared.term.Way.TheVariants.{Parallel}
 use Rattle.diagram.specs.declared.limits.TheConstants.{STORE}
-use Rattle.worked.specs.Two.{OfTwo}
+use Rattle.worked.specs.TwoParts.{OfTwo}
 use Rattle.worked.proofs.flows.pumps_alone.Goals as goal
 
 pub returns : goal.returns

@@ -2,7 +2,7 @@ use Rattle.std.proofs.Common.{[], ◌∷◌, sym, refl, arith, rules}
 use Rattle.kinds.proofs.Lawful.{lawful_kind}
 use Rattle.diagram.proofs.RunGoesOn.{ok_not_err}
 use Rattle.worked.proofs.Drawing.{TwoEach, Names, pipe_added, pumps_joined, plant_joined, pumps_collected, plant_collected, worked_out, few, short, below_five}
-use Rattle.worked.specs.Plants.{pumps_drawn, drawn, each_drawn}
+use Rattle.worked.specs.Plants.{pumps_drawn, plant_drawn, each_drawn}
 use Rattle.worked.proofs.plant.Plant.draw.Goals as goal
 
 names : Names 0 1 3 2
@@ -61,7 +61,7 @@ returns-in_err-collect-2-clause-left g c =
     _ c.add-3.new.self c.add-3.new.store c.in_ok-pipe.ensures 0 1 3 2 names _ (λ e f i. e i ∷ f i ∷ [])
     _ c.join.new.self c.in_ok-pumps.ensures _ (λ e f i. e i ∷ f i ∷ [])
     _ c.join-2.new.self c.in_ok-plant.ensures (short g.P.Performance (lawful_kind g.met.P.Performance) pumps_drawn _ refl (few g.P.Performance (lawful_kind g.met.P.Performance) pumps_drawn (λ x x' y y' z z'. omega arith) c.args.self.now two))
-    _ c.collect.new.self c.collect.new.store c.in_ok-collect.ensures (short g.P.Performance (lawful_kind g.met.P.Performance) drawn _ refl (few g.P.Performance (lawful_kind g.met.P.Performance) drawn (λ x x' y y' z z'. omega arith) c.args.self.now two))
+    _ c.collect.new.self c.collect.new.store c.in_ok-collect.ensures (short g.P.Performance (lawful_kind g.met.P.Performance) plant_drawn _ refl (few g.P.Performance (lawful_kind g.met.P.Performance) plant_drawn (λ x x' y y' z z'. omega arith) c.args.self.now two))
     c.collect-2.new.self c.collect-2.new.store _ c.in_err-collect-2.ensures).1))
 
 pub returns : goal.returns
@@ -72,7 +72,7 @@ returns g c =
     _ c.add-3.new.self c.add-3.new.store c.in_ok-pipe.ensures 0 1 3 2 names _ (λ e f i. e i ∷ f i ∷ [])
     _ c.join.new.self c.in_ok-pumps.ensures _ (λ e f i. e i ∷ f i ∷ [])
     _ c.join-2.new.self c.in_ok-plant.ensures (short g.P.Performance (lawful_kind g.met.P.Performance) pumps_drawn _ refl (few g.P.Performance (lawful_kind g.met.P.Performance) pumps_drawn (λ x x' y y' z z'. omega arith) c.args.self.now two))
-    _ c.collect.new.self c.collect.new.store c.in_ok-collect.ensures (short g.P.Performance (lawful_kind g.met.P.Performance) drawn _ refl (few g.P.Performance (lawful_kind g.met.P.Performance) drawn (λ x x' y y' z z'. omega arith) c.args.self.now two))
+    _ c.collect.new.self c.collect.new.store c.in_ok-collect.ensures (short g.P.Performance (lawful_kind g.met.P.Performance) plant_drawn _ refl (few g.P.Performance (lawful_kind g.met.P.Performance) plant_drawn (λ x x' y y' z z'. omega arith) c.args.self.now two))
     _ c.collect-2.new.self c.collect-2.new.store c.in_ok-collect-2.ensures in
     record {
       calls = record {

@@ -2,7 +2,7 @@ use Rattle.std.proofs.Common.{[], ◌∷◌, sym, refl, arith, rules}
 use Rattle.kinds.proofs.Lawful.{lawful_kind}
 use Rattle.diagram.proofs.RunGoesOn.{ok_not_err}
 use Rattle.worked.proofs.Drawing.{TwoEach, Names, pipe_added, pumps_joined, plant_joined, pumps_collected, plant_collected, worked_out, few, short, below_five}
-use Rattle.worked.specs.Plants.{pumps_redrawn, redrawn, each_redrawn}
+use Rattle.worked.specs.Plants.{pumps_redrawn, plant_redrawn, each_redrawn}
 use Rattle.worked.proofs.plant.Plant.redraw.Goals as goal
 
 names : Names 1 0 2 3
@@ -61,7 +61,7 @@ returns-in_err-collect-2-clause-left g c =
     _ c.add-3.new.self c.add-3.new.store c.in_ok-pipe.ensures 1 0 2 3 names _ (λ e f i. f i ∷ e i ∷ [])
     _ c.join.new.self c.in_ok-pumps.ensures _ (λ e f i. f i ∷ e i ∷ [])
     _ c.join-2.new.self c.in_ok-plant.ensures (short g.P.Performance (lawful_kind g.met.P.Performance) pumps_redrawn _ refl (few g.P.Performance (lawful_kind g.met.P.Performance) pumps_redrawn (λ x x' y y' z z'. omega arith) c.args.self.now two))
-    _ c.collect.new.self c.collect.new.store c.in_ok-collect.ensures (short g.P.Performance (lawful_kind g.met.P.Performance) redrawn _ refl (few g.P.Performance (lawful_kind g.met.P.Performance) redrawn (λ x x' y y' z z'. omega arith) c.args.self.now two))
+    _ c.collect.new.self c.collect.new.store c.in_ok-collect.ensures (short g.P.Performance (lawful_kind g.met.P.Performance) plant_redrawn _ refl (few g.P.Performance (lawful_kind g.met.P.Performance) plant_redrawn (λ x x' y y' z z'. omega arith) c.args.self.now two))
     c.collect-2.new.self c.collect-2.new.store _ c.in_err-collect-2.ensures).1))
 
 pub returns : goal.returns
@@ -72,7 +72,7 @@ returns g c =
     _ c.add-3.new.self c.add-3.new.store c.in_ok-pipe.ensures 1 0 2 3 names _ (λ e f i. f i ∷ e i ∷ [])
     _ c.join.new.self c.in_ok-pumps.ensures _ (λ e f i. f i ∷ e i ∷ [])
     _ c.join-2.new.self c.in_ok-plant.ensures (short g.P.Performance (lawful_kind g.met.P.Performance) pumps_redrawn _ refl (few g.P.Performance (lawful_kind g.met.P.Performance) pumps_redrawn (λ x x' y y' z z'. omega arith) c.args.self.now two))
-    _ c.collect.new.self c.collect.new.store c.in_ok-collect.ensures (short g.P.Performance (lawful_kind g.met.P.Performance) redrawn _ refl (few g.P.Performance (lawful_kind g.met.P.Performance) redrawn (λ x x' y y' z z'. omega arith) c.args.self.now two))
+    _ c.collect.new.self c.collect.new.store c.in_ok-collect.ensures (short g.P.Performance (lawful_kind g.met.P.Performance) plant_redrawn _ refl (few g.P.Performance (lawful_kind g.met.P.Performance) plant_redrawn (λ x x' y y' z z'. omega arith) c.args.self.now two))
     _ c.collect-2.new.self c.collect-2.new.store c.in_ok-collect-2.ensures in
     record {
       calls = record {

@@ -4,7 +4,7 @@ use Rattle.diagram.specs.Shown.{records}
 use Rattle.diagram.specs.Store.{row_at}
 use Rattle.diagram.proofs.RunGoesOn.{yes, given}
 use Rattle.worked.proofs.Needs.{need_is}
-use Rattle.worked.proofs.answers.Answers.of.Goals as goal
+use Rattle.worked.proofs.answers.RowAndNeeds.of.Goals as goal
 
 pub returns-clause-answers : goal.returns-clause-answers
 returns-clause-answers c =

@@ -2,7 +2,7 @@ use Rattle.kinds.specs.contracts.flow.FlowPerformance.TheImpl as flow_kind
 use Rattle.kinds.specs.contracts.parts.PartsWeight.TheImpl as parts_weight
 use Rattle.diagram.specs.Shown.{records}
 use Rattle.worked.proofs.Rows.{copied}
-use Rattle.worked.proofs.answers.Row.of.Goals as goal
+use Rattle.worked.proofs.answers.CopiedRow.of.Goals as goal
 
 pub loop-i-preserved : goal.loop-i-preserved
 loop-i-preserved c =

@@ -9,11 +9,11 @@ use Rattle.kinds.specs.declared.word.Word.{Word}
 use Rattle.kinds.specs.WordLaws.{word_same}
 use Rattle.terms.specs.declared.term.Term.{Term}
 use Rattle.diagram.specs.declared.limits.TheConstants.{TERMS}
-use Rattle.worked.specs.declared.answers.Answers.{Answers}
-use Rattle.worked.specs.declared.answers.Row.{Row}
+use Rattle.worked.specs.declared.answers.RowAndNeeds.{RowAndNeeds}
+use Rattle.worked.specs.declared.answers.CopiedRow.{CopiedRow}
 use Rattle.worked.specs.declared.lines.Need.{Need}
-use Rattle.worked.specs.contracts.answers.AnswersPartialEq.TheImpl as answers_eq
-use Rattle.worked.specs.contracts.answers.RowPartialEq.TheImpl as row_eq
+use Rattle.worked.specs.contracts.answers.RowAndNeedsPartialEq.TheImpl as answers_eq
+use Rattle.worked.specs.contracts.answers.CopiedRowPartialEq.TheImpl as row_eq
 use Rattle.worked.specs.contracts.lines.NeedPartialEq.TheImpl as need_eq
 
 -- what `==` asks of two terms
@@ -55,14 +55,14 @@ need_same a b e =
     let all = word_is a.all b.all two.1 in
     λ i. record { demand = demand i; met = met i; all = all i }
 
-row_same : (a b : Row) → row_eq.ghosts.eq a b ≡ true → a ≡ b
+row_same : (a b : CopiedRow) → row_eq.ghosts.eq a b ≡ true → a ≡ b
 row_same a b e =
     let one = each (pointwise flow_term_eq a.terms b.terms) _ e in
     let terms = pointwise_same term_same a.terms b.terms one.0 in
     let len = eqb-true a.len b.len one.1 in
     λ i. record { terms = terms i; len = len i; fits = is_prop→PathP (λ i. len i ≤ TERMS) (λ i. le_prop {n = len i} {m = TERMS}) a.fits b.fits i }
 
-pub answers_same : (a b : Answers) → answers_eq.ghosts.eq a b ≡ true → a ≡ b
+pub answers_same : (a b : RowAndNeeds) → answers_eq.ghosts.eq a b ≡ true → a ≡ b
 answers_same a b e =
     let one = each (row_eq.ghosts.eq a.row b.row) _ e in
     let two = each (need_eq.ghosts.eq a.three b.three) _ one.1 in
